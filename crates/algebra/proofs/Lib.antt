@@ -1,0 +1,4 @@
+pub mod Guarded
+pub mod OneMeaning
+pub mod Sums
+pub mod Rows

@@ -1,0 +1,6 @@
+pub mod Meaning
+pub mod Inverse
+pub mod Operations
+pub mod Matrix
+pub mod Outcome
+pub mod Agreement
