@@ -1,26 +1,19 @@
 -- The product of two matrices: what the call answers, and what it writes.
 use mathlib.Core.Bool.{Bool, cond, _&&_}
-use mathlib.Core.List.{List, [], _∷_}
+use mathlib.Core.List.{List, []}
 use Prim.Native.Nat.{ℕ}
 use lib.Dec.{eqb}
-use Rattle.std.specs.declared.option.Option.{Option}
-use Rattle.std.specs.declared.option.Option.the-variants.{Some, None}
 use Rattle.std.specs.declared.result.Result.{Result}
-use Rattle.std.specs.declared.result.Result.the-variants.{Ok, Err}
+use Rattle.std.specs.declared.result.Result.the-variants.{Ok}
 use Rattle.algebra.specs.Meaning.{Meaning}
 use Rattle.algebra.specs.Operations.{operations, times}
 use Rattle.algebra.specs.Matrix.{Matrix, rowMajor, entry}
 use Rattle.algebra.specs.Outcome.{Told, refused}
-use Rattle.windows.specs.Codes.{firstOutside}
+use Rattle.windows.specs.Codes.{firstOutside, unlessOutside}
 
 -- A has as many columns as B rows, and C, of the given sides, has the rows of A and the columns of B
 abbrev pub productFits : Matrix → Matrix → ℕ → ℕ → Bool
 productFits a b rows columns = eqb (a .columns) (b .rows) && (eqb rows (a .rows) && eqb columns (b .columns))
-
--- 4 with the window and the position of the first number that is no code, if there is one; else what follows
-abbrev pub unlessOutside : {A : Type 0} → ℕ → Option ℕ → Result A Told → Result A Told
-unlessOutside window None rest = rest
-unlessOutside window (Some position) rest = refused 4 (window ∷ position ∷ [])
 
 -- 9 where the sides do not fit, then 4 for A, which is window 0, and then for B, which is window 1
 abbrev pub productAnswer : ℕ → Matrix → Matrix → ℕ → ℕ → Result (Unit {0}) Told

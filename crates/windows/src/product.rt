@@ -8,7 +8,7 @@ ghost use Rattle.algebra.specs.Outcome.{outcome, unlessRefused};
 ghost use Rattle.windows.specs.Product.{productAnswer, productCells};
 ghost use Rattle.windows.specs.Refusals.{told};
 ghost use Rattle.windows.specs.Shown.{shown};
-use crate::codes::first_outside;
+use crate::codes::check_codes;
 use crate::refusal::Refusal;
 use crate::rows::add_multiple;
 use crate::window::Window;
@@ -16,8 +16,8 @@ use algebra::ring::Ring;
 
 // C = A × B, whatever C held before. A refusal changes nothing.
 pub fn product<R: Ring>(r: &R, a: &Window, b: &Window, c: Window) -> Result<(), Refusal>
-    ensures answer { λ x. ⌜ outcome told x ≡ productAnswer (R·Ring .meaning (now (r .entry)) .order) (shown (now (a .entry))) (shown (now (b .entry))) (c .entry .rows) (c .entry .columns) ⌝ }
-    ensures written { λ x. ⌜ now (c .exit .0) ≡ unlessRefused x (productCells (R·Ring .meaning (now (r .entry))) (shown (now (a .entry))) (shown (now (b .entry)))) (now (c .entry .cells)) ⌝ }
+    ensures answer { λ x. ⌜ outcome told x ≡ productAnswer (R·Ring .meaning (now (r .entry)) .order) (shown (now (a .entry))) (shown (now (b .entry))) (shown (c .entry) .rows) (shown (c .entry) .columns) ⌝ }
+    ensures written { λ x. ⌜ now (c .exit .0) ≡ unlessRefused x (productCells (R·Ring .meaning (now (r .entry))) (shown (now (a .entry))) (shown (now (b .entry)))) (shown (c .entry) .cells) ⌝ }
     ensures kept { λ _. ⌜ (now (a .exit) ≡ now (a .entry)) × (now (b .exit) ≡ now (b .entry)) ⌝ }
 {
     let Window {
@@ -58,19 +58,8 @@ fn check_product<R: Ring>(
     if a.columns != b.rows || rows != a.rows || columns != b.columns {
         return Err(Refusal::Fit);
     }
-    if let Some(position) = first_outside(r, a.cells) {
-        return Err(Refusal::Code {
-            window: 0,
-            position,
-        });
-    }
-    if let Some(position) = first_outside(r, b.cells) {
-        return Err(Refusal::Code {
-            window: 1,
-            position,
-        });
-    }
-    Ok(())
+    check_codes(r, 0, a.cells)?;
+    check_codes(r, 1, b.cells)
 }
 
 // Writes the table `a`, of rows of `middle` codes, times the table `b`, of rows of `columns` codes, into `c`.

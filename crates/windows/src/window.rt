@@ -3,10 +3,12 @@ ghost use mathlib.Core.Bool.{true, _&&_};
 ghost use mathlib.Core.Path.{_≡_};
 ghost use Prim.Native.Nat.{_*_};
 ghost use lib.ListN.{length};
-ghost use Rattle.std.specs.declared.result.Result.the-variants.{Ok};
 ghost use Rattle.algebra.specs.Outcome.{outcome};
 ghost use Rattle.windows.specs.Refusals.{told};
 ghost use Rattle.windows.specs.Sides.{isSide, checked};
+
+mod methods;
+
 use crate::refusal::Refusal;
 
 // The longest side of a window.
@@ -33,45 +35,4 @@ pub fn check(rows: usize, columns: usize, length: usize) -> Result<(), Refusal>
         return Err(Refusal::Length);
     }
     Ok(())
-}
-
-impl<'a> Window<'a> {
-    // The slice with these sides, for which the check passes.
-    pub fn new(cells: &'a mut [u32], rows: usize, columns: usize) -> Window<'a>
-        requires { ⌜ checked rows columns (length (now cells)) ≡ Ok tt ⌝ }
-        ensures { λ w. ⌜ (w .cells ≡ cells .entry) × (w .rows ≡ rows) × (w .columns ≡ columns) ⌝ }
-    {
-        Window {
-            cells,
-            rows,
-            columns,
-        }
-    }
-
-    pub fn rows(&self) -> usize
-        ensures { λ r. ⌜ r ≡ now (self .entry) .rows ⌝ }
-    {
-        self.rows
-    }
-
-    pub fn columns(&self) -> usize
-        ensures { λ r. ⌜ r ≡ now (self .entry) .columns ⌝ }
-    {
-        self.columns
-    }
-
-    // The codes, row after row.
-    pub fn cells(&self) -> &[u32]
-        ensures { λ r. ⌜ now r ≡ now (now (self .entry) .cells) ⌝ }
-    {
-        self.cells
-    }
-
-    // The lent slice again.
-    pub fn into_cells(self) -> &'a mut [u32]
-        ensures { λ r. ⌜ r ≡ self .entry .cells ⌝ }
-    {
-        let Window { cells, .. } = self;
-        cells
-    }
 }
