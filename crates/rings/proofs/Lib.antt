@@ -1,0 +1,10 @@
+-- The lemmas.
+pub mod Computed
+pub mod ModuloLaws
+pub mod Primes
+pub mod Linear
+pub mod Polynomials
+pub mod OctetLaws
+pub mod OctetFields
+pub mod OctetTables
+pub mod OctetTests
