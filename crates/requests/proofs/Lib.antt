@@ -1,0 +1,8 @@
+-- Lemmas that several proofs share.
+pub mod Cutting
+pub mod Valued
+pub mod Adding
+pub mod Following
+pub mod Shrinking
+pub mod Spelling
+pub mod Recalling

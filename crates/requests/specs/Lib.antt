@@ -1,0 +1,8 @@
+-- The format of requests, by lists of bytes.
+pub mod Text
+pub mod Runs
+pub mod Numbers
+pub mod Format
+pub mod Written
+pub mod Cursors
+pub mod Asked
