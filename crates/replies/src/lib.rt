@@ -1,0 +1,4 @@
+// Answering the requests of a text.
+pub mod answering;
+mod multiply;
+pub mod reply;
