@@ -72,7 +72,7 @@ fn finds_faults_of_matrices(rt: LibcRuntime) -> Result<(), Fail> {
         rt,
         b"product words\n1 1\n4294967296\n",
         0,
-        "line 3: expected a row of 1 whole numbers below 2^32",
+        "line 3: expected a row of one whole number below 2^32",
     )?;
     check_text(
         rt,
