@@ -84,6 +84,12 @@ module _ (m : Meaning) (a b : Matrix) (xs ys : List ℕ) (ea : xs ≡ a .cells) 
       ap (λ zs. Ok (record { rows = a .rows; columns = b .columns; cells = zs })) (f ∙ ap₂ (productCells m) left-is right-is)
       ∙ ap (ifPassed (record { rows = a .rows; columns = b .columns; cells = productCells m a b })) (verdict (Ok tt) e)
 
+-- the reply over the ring of a name
+pub ring-replied : (ring name : RingName) (a b : Matrix) (r : Result Reply AllocError) → ring ≡ name
+    → made r (λ reply. replied reply ≡ productReply (meaningOf name) a b)
+    → made r (λ reply. replied reply ≡ productReply (meaningOf ring) a b)
+ring-replied ring name a b r e h = subst (λ k. made r (λ reply. replied reply ≡ productReply (meaningOf k) a b)) (sym e) h
+
 -- the reply to a request for a product, whose parts were taken out of it in two steps
 pub product-asked : (q : Request) (ring ring′ : RingName) (left left′ right right′ : Table) (r : Result Reply AllocError)
     → q ≡ Product ring left right → Product ring left right ≡ Product ring′ left′ right′
