@@ -1,6 +1,6 @@
 // Multiplies matrices: reads requests from the file that the argument names, or from standard input, and prints the reply to each.
 use replies::answering::answer;
-use replies::reply::ReplyDisplay;
+use replies::rendering::render;
 use requests::fault::Fault;
 use requests::fault::FaultDisplay;
 use requests::reading::parse;
@@ -40,8 +40,8 @@ fn run(rt: &LibcRuntime) -> Result<Option<Fault>, AnyError> {
 
 fn print_reply(rt: &LibcRuntime, request: Request) -> Result<(), AnyError> {
     let reply = answer(rt.alloc(), request)?;
-    let text = format!(rt.alloc(), "{reply}")?;
-    println!(rt, "{text}")?;
+    let text = render(rt.alloc(), &reply)?;
+    print!(rt, "{text}")?;
     Ok(())
 }
 

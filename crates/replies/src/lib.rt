@@ -1,4 +1,5 @@
 // Answering the requests of a text.
 pub mod answering;
 mod multiply;
+pub mod rendering;
 pub mod reply;

@@ -6,3 +6,4 @@ pub mod Following
 pub mod Shrinking
 pub mod Spelling
 pub mod Recalling
+pub mod Telling
