@@ -64,18 +64,26 @@ pub impl Ring for OctetsByShifts as OctetsByShiftsRing {
     }
 }
 
+// The 255th power of each code but 0 is 1, so the 254th is its inverse; 254 is 2 + 4 + .. + 128.
+fn inverse_of(a: u32) -> u32
+    requires { ⌜ 0 < a ⌝ ∗ ⌜ a < 256 ⌝ }
+    ensures value { λ r. ⌜ octetProduct 0x11D a r ≡ 1 ⌝ }
+    ensures code { λ r. ⌜ r < 256 ⌝ }
+{
+    let mut square = a;
+    let mut power = 1;
+    for _i in 0..7u32 {
+        square = product_of(square, square);
+        power = product_of(power, square);
+    }
+    power
+}
+
 pub impl Field for OctetsByShifts as OctetsByShiftsField {
-    // The 255th power of each code but 0 is 1, so the 254th is its inverse; 254 is 2 + 4 + .. + 128.
     fn inverse(&self, a: u32) -> Option<u32> {
         if a == 0 || a >= ORDER {
             return None;
         }
-        let mut square = a;
-        let mut power = 1;
-        for _i in 0..7u32 {
-            square = product_of(square, square);
-            power = product_of(power, square);
-        }
-        Some(power)
+        Some(inverse_of(a))
     }
 }

@@ -55,11 +55,20 @@ pub impl Ring for OctetsByTable as OctetsByTableRing {
     }
 }
 
+// The logarithms of a code and of its inverse add up to 255.
+fn inverse_of(a: u32) -> u32
+    requires { ⌜ 0 < a ⌝ ∗ ⌜ a < 256 ⌝ }
+    ensures value { λ r. ⌜ octetProduct 0x11D a r ≡ 1 ⌝ }
+    ensures code { λ r. ⌜ r < 256 ⌝ }
+{
+    wrapped_power(255 - logarithm(a))
+}
+
 pub impl Field for OctetsByTable as OctetsByTableField {
     fn inverse(&self, a: u32) -> Option<u32> {
         if a == 0 || a >= ORDER {
             return None;
         }
-        Some(wrapped_power(255 - logarithm(a)))
+        Some(inverse_of(a))
     }
 }

@@ -2,28 +2,21 @@
 use mathlib.Core.Path.{_≡_, sym, ap, ap₂, subst, _∙_}
 use Prim.Native.Nat.{_-_, _+_, _<_}
 use native.Mathlib.Omega.{arith}
-use Rattle.algebra.proofs.Guarded.{inside}
 use Rattle.rings.specs.Octets.{octetProduct, powerOf}
 use Rattle.rings.proofs.OctetFields.{product-power, power-code, power-255}
 use Rattle.rings.proofs.OctetTests.{tests}
-use Rattle.rings.proofs.octets.by_table.OctetsByTableField.inverse.Needs as need
+use Rattle.rings.proofs.octets.by_table.inverse_of.Needs as need
 
 pub returns : need.returns
 returns c =
-    let a = c .args .a in
     let r = c .wrapped-power .result in
     let i = c .logarithm .result in
-    let low : 0 < a = omega arith in
-    let high : a < 256 = omega arith in
     let is : r ≡ powerOf 0x11D (255 - i) = c .wrapped-power .ensures in
-    let code : r < 256 = subst (λ z. z < 256) (sym is) (power-code tests (255 - i)) in
-    let whole : i + (255 - i) ≡ 255 = omega (arith, c .logarithm .ensures .below) in (
-      low,
-      high,
-      code,
-      inside 256 a r (octetProduct 0x11D a r) high code
-          ∙ ap₂ (octetProduct 0x11D) (sym (c .logarithm .ensures .value)) is
+    let whole : i + (255 - i) ≡ 255 = omega (arith, c .logarithm .ensures .below) in
+    record {
+      value = ap₂ (octetProduct 0x11D) (sym (c .logarithm .ensures .value)) is
           ∙ product-power tests i (255 - i)
           ∙ ap (powerOf 0x11D) whole
-          ∙ power-255 tests,
-    )
+          ∙ power-255 tests;
+      code = subst (λ z. z < 256) (sym is) (power-code tests (255 - i));
+    }

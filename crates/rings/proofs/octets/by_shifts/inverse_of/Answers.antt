@@ -1,13 +1,12 @@
 -- Seven squarings give the 254th power, which is the inverse.
 use mathlib.Core.Path.{_≡_, sym, ap, ap₂, _∙_, refl}
-use Prim.Native.Nat.{suc, _-_, _+_, _<_}
+use Prim.Native.Nat.{suc, _-_, _+_}
 use native.Mathlib.Omega.{arith}
 use lib.Dec.{lit<}
-use Rattle.algebra.proofs.Guarded.{inside}
 use Rattle.rings.specs.Octets.{octetProduct}
 use Rattle.rings.proofs.OctetFields.{squaresBy, inverseOf, inverse-is}
 use Rattle.rings.proofs.OctetTests.{tests}
-use Rattle.rings.proofs.octets.by_shifts.OctetsByShiftsField.inverse.Needs as need
+use Rattle.rings.proofs.octets.by_shifts.inverse_of.Needs as need
 
 pub loop-i-holds : need.loop-i-holds
 unfolding inverseOf
@@ -32,16 +31,10 @@ pub returns : need.returns
 returns c =
     let a = c .args .a in
     let power = c .loop-i .power in
-    let code = c .loop-i .inv .1 in
-    let low : 0 < a = omega arith in
-    let high : a < 256 = omega arith in
     let over : 7 - c .loop-i .-i ≡ 0 = omega arith in
     let is : power ≡ inverseOf 0x11D a =
-    sym (ap (λ z. squaresBy 0x11D z (c .loop-i .square) power) over) ∙ c .loop-i .inv .2 in (
-      low,
-      high,
-      code,
-      inside 256 a power (octetProduct 0x11D a power) high code
-          ∙ ap (octetProduct 0x11D a) is
-          ∙ inverse-is tests a low high,
-    )
+    sym (ap (λ z. squaresBy 0x11D z (c .loop-i .square) power) over) ∙ c .loop-i .inv .2 in
+    record {
+      value = ap (octetProduct 0x11D a) is ∙ inverse-is tests a (c .pre .0) (c .pre .1);
+      code = c .loop-i .inv .1;
+    }

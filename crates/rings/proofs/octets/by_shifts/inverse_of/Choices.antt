@@ -2,7 +2,7 @@
 use mathlib.Core.Path.{_≡_}
 use Prim.Native.Nat.{_-_, _<_}
 use Rattle.rings.proofs.OctetFields.{squaresBy, inverseOf}
-use Rattle.rings.proofs.octets.by_shifts.OctetsByShiftsField.inverse.Given as given
+use Rattle.rings.proofs.octets.by_shifts.inverse_of.Given as given
 
 abbrev pub Inv-loop-i : given.InvT-loop-i
 Inv-loop-i l =
