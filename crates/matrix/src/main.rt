@@ -53,11 +53,18 @@ fn read_text(rt: &LibcRuntime) -> Result<Vec<u8>, AnyError> {
         return Err("expected at most one argument, the file with the requests".into());
     }
     match path {
-        Some(path) => Ok(fs::read(rt, path)?),
+        Some(path) => read_file(rt, path),
         None => {
             let mut text = Vec::new(rt.alloc());
             rt.stdin().read_to_end(&mut text)?;
             Ok(text)
         }
+    }
+}
+
+fn read_file(rt: &LibcRuntime, path: String) -> Result<Vec<u8>, AnyError> {
+    match fs::read(rt, path.as_str()) {
+        Ok(text) => Ok(text),
+        Err(error) => Err(format!(rt.alloc(), "cannot read {path}: {error}")?.into()),
     }
 }

@@ -1,11 +1,12 @@
 // Reads the requests of a text, line by line.
 ghost use mathlib.Core.List.{map};
+ghost use mathlib.Core.Path.{_≡_};
 ghost use Rattle.std.specs.Of.Vec.{vec-items};
 ghost use Rattle.std.specs.Vec.{made};
 ghost use Rattle.requests.specs.Cursors.{left, Counted, preceded, Gives};
 ghost use Rattle.requests.specs.Asked.{cellsOf, matrixOf, askedBy};
 ghost use Rattle.requests.specs.Text.{words};
-ghost use Rattle.requests.specs.Format.{line, readSides, readRow, readRows, readMatrix, readRequest, Reads};
+ghost use Rattle.requests.specs.Format.{line, readSides, readRow, readRows, readMatrix, readRequest, rowLines, Reads};
 ghost use Rattle.requests.specs.Written.{OneReading, ReadBack};
 use crate::cursor::Cursor;
 use crate::fault::Expected;
@@ -89,6 +90,13 @@ fn read_rows(
     Ok((cells, cursor))
 }
 
+// How many lines the rows have: none where there is no column.
+fn row_lines(rows: usize, columns: usize) -> usize
+    ensures { λ r. ⌜ r ≡ rowLines rows columns ⌝ }
+{
+    if columns == 0 { 0 } else { rows }
+}
+
 fn read_table(heap: Global, cursor: Cursor<'_>) -> Result<(Table, Cursor<'_>), Stop>
     requires { ⌜ Counted cursor ⌝ }
     ensures { λ r. ⌜ Gives matrixOf (readMatrix (left (cursor .entry))) r ⌝ }
@@ -96,9 +104,7 @@ fn read_table(heap: Global, cursor: Cursor<'_>) -> Result<(Table, Cursor<'_>), S
     let (sides, after) = read_sides(cursor)?;
     let rows = sides.0 as usize;
     let columns = sides.1 as usize;
-    // rows of no columns have no lines
-    let lines = if columns == 0 { 0 } else { rows };
-    let (cells, after) = read_rows(heap, after, lines, columns)?;
+    let (cells, after) = read_rows(heap, after, row_lines(rows, columns), columns)?;
     Ok((
         Table {
             rows,

@@ -1,9 +1,6 @@
 -- A matrix is its sides and then its rows.
-use borrow.Author.Needs.{needs}
-use mathlib.Core.Path.{_≡_}
 use Rattle.std.proofs.shelf.Results.{err-from-errBy}
 use Rattle.requests.specs.Asked.{cellsOf, matrixOf}
-use Rattle.requests.specs.Format.{rowLines}
 use Rattle.requests.proofs.Following.{gives-stop, matrix-no-sides, matrix-no-rows, matrix-read}
 use Rattle.requests.proofs.reading.read_table.Needs as need
 
@@ -16,12 +13,10 @@ pub returns-in-Break-cells : need.returns-in-Break-cells
 returns-in-Break-cells c =
     let p = err-from-errBy (c .from-residual-in-Break-cells .result) (c .from-residual-in-Break-cells .ensures .1) in
     let size = c .in-Continue-sides .sides in
-    let k : c .if-columns-eq0 .lines ≡ rowLines (size .0) (size .1) = search needs in
-    rw (p .1, p .2) (gives-stop cellsOf matrixOf _ _ _ (λ g. matrix-no-rows _ size _ _ g (c .in-Continue-sides .ensures tt .0) k) (c .in-Break-cells .ensures tt))
+    rw (p .1, p .2) (gives-stop cellsOf matrixOf _ _ _ (λ g. matrix-no-rows _ size _ _ g (c .in-Continue-sides .ensures tt .0) (c .row-lines .ensures)) (c .in-Break-cells .ensures tt))
 
 pub returns : need.returns
 returns c =
     let size = c .in-Continue-sides .sides in
-    let k : c .if-columns-eq0 .lines ≡ rowLines (size .0) (size .1) = search needs in
     let rows = c .in-Continue-cells .ensures tt in
-    (matrix-read _ size _ _ _ _ (c .in-Continue-sides .ensures tt .0) k (rows .0), rows .1)
+    (matrix-read _ size _ _ _ _ (c .in-Continue-sides .ensures tt .0) (c .row-lines .ensures) (rows .0), rows .1)
