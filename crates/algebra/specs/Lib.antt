@@ -1,3 +1,4 @@
+-- Rings, fields, sums and matrices: what contracts cite.
 pub mod Meaning
 pub mod Inverse
 pub mod Operations

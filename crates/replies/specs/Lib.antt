@@ -1,2 +1,3 @@
+-- Replies and their text.
 pub mod Replies
 pub mod ReplyText

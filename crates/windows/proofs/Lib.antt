@@ -1,1 +1,2 @@
+-- Lemmas that several proofs share.
 pub mod RowSteps

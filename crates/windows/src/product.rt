@@ -1,12 +1,13 @@
 // The product of two windows, written into a third.
 ghost use mathlib.Core.Path.{_≡_};
-ghost use Prim.Native.Nat.{ℕ, _*_, _<_};
-ghost use lib.ListN.{length, getD};
+ghost use Prim.Native.Nat.{_*_, _<_};
+ghost use lib.ListN.{length};
 ghost use Rattle.algebra.specs.Matrix.{rowMajor, entry};
-ghost use Rattle.algebra.specs.Operations.{operations, dot, times};
+ghost use Rattle.algebra.specs.Operations.{operations, times};
 ghost use Rattle.algebra.specs.Outcome.{outcome, unlessRefused};
 ghost use Rattle.windows.specs.Product.{productAnswer, productCells};
 ghost use Rattle.windows.specs.Refusals.{told};
+ghost use Rattle.windows.specs.Rows.{RowTimes};
 ghost use Rattle.windows.specs.Shown.{shown};
 use crate::codes::check_codes;
 use crate::refusal::Refusal;
@@ -88,7 +89,7 @@ fn product_table<R: Ring>(
 // Writes the row `left` times the table `table` into `into`.
 fn product_row<R: Ring>(r: &R, into: &mut [u32], left: &[u32], table: &[u32])
     requires { ⌜ length (now table) ≡ length (now left) * length (now into) ⌝ }
-    ensures { λ _. ⌜ ((j : ℕ) → j < length (now (into .entry)) → getD (now (into .exit)) j 0 ≡ dot (operations (R·Ring .meaning (now (r .entry)))) (length (now (left .entry))) (λ k. getD (now (left .entry)) k 0) (λ k. entry (length (now (into .entry))) (now (table .entry)) k j)) ⌝ }
+    ensures { λ _. ⌜ RowTimes (R·Ring .meaning (now (r .entry))) (length (now (into .entry))) (now (left .entry)) (now (table .entry)) (now (into .exit)) ⌝ }
 {
     into.fill(0);
     let columns = into.len();

@@ -1,1 +1,2 @@
+-- The lines of the table.
 pub mod Lines

@@ -1,1 +1,2 @@
+-- The worked values.
 pub mod Worked
