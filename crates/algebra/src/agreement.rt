@@ -7,7 +7,7 @@ ghost use Rattle.std.specs.Orderings.{Decides};
 use crate::field::Field;
 use crate::ring::Ring;
 
-// Whether the two have one order, and answer alike for the codes a and b.
+// Whether the two have one order, the same sum and product of a and b, and the same negative of a.
 pub fn answer_alike<R: Ring, S: Ring>(r: &R, s: &S, a: u32, b: u32) -> bool
     ensures decides { λ x. ⌜ Decides x (AnswerAlike (R·Ring .meaning (now (r .entry))) (S·Ring .meaning (now (s .entry))) a b) ⌝ }
     ensures always { λ x. ⌜ (OneMeaning (R·Ring .meaning (now (r .entry))) (S·Ring .meaning (now (s .entry))) → x ≡ true) ⌝ }
