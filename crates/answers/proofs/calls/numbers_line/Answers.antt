@@ -6,7 +6,7 @@ use Rattle.answers.proofs.calls.numbers_line.Goals as goal
 pub returns : goal.returns
 returns c =
     let numbers = flat_map after_blank c.args.numbers.now in
-    c.in-ok-push.ensures.bytes
-    ∙ ap₂ ◌++◌ (c.in-ok-text-2.ensures ∙ ap (λ z. z ++ numbers) c.in-ok-text.ensures.made)
-    (c.in-ok-push.ensures.ascii (lit< tt))
+    c.in_ok-push.ensures.bytes
+    ∙ ap₂ ◌++◌ (c.in_ok-text-2.ensures ∙ ap (λ z. z ++ numbers) c.in_ok-text.ensures.made)
+    (c.in_ok-push.ensures.ascii (lit< tt))
     ∙ append_assoc c.args.head.now numbers (10 ∷ [])

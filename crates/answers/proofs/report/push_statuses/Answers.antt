@@ -16,8 +16,8 @@ loop-j-preserved c =
     let symbols = c.args.symbols.now in
     let j = c.loop-j.j in
     ap (λ z. z ++ status_texts (j + 1) (drop (j + 1) symbols))
-    (c.in-ok-push_str.ensures.bytes
-    ∙ ap (λ z. string_bytes c.loop-j.text ++ z) (c.as_str.ensures.value ∙ c.in-ok-line.ensures))
+    (c.in_ok-push_str.ensures.bytes
+    ∙ ap (λ z. string_bytes c.loop-j.text ++ z) (c.as_str.ensures.value ∙ c.in_ok-line.ensures))
     ∙ next (string_bytes c.loop-j.text) symbols j _ c.loop-j-test.true
     ∙ c.loop-j.invariant
 

@@ -9,10 +9,10 @@ use Rattle.pass.proofs.asking.ask_solution.Goals as goal
 
 pub returns : goal.returns
 returns g c =
-    let zeros = c.deref-mut.ensures.value ∙ c.in-ok-content.ensures.items-if-clones-equal (λ y e. e) in
-    let full : length c.solution-result.new.out ≡ c.in-ok-content.content.len =
+    let zeros = c.deref-mut.ensures.value ∙ c.in_ok-content.ensures.items-if-clones-equal (λ y e. e) in
+    let full : length c.solution-result.new.out ≡ c.in_ok-content.content.len =
     omega (arith, c.solution-result.auto.out, c.deref-mut.ensures.len) in
-    let written = with_items_is c.in-ok-content.content c.solution-result.new.out full in
+    let written = with_items_is c.in_ok-content.content c.solution-result.new.out full in
     λ n log h.
     answered _ n log _ _ _ _ (ap solution zeros) (ap (wrote (outcome told c.solution-result.result)) (sym written))
     (c.solution-result.ensures.log n log h)

@@ -12,5 +12,5 @@ returns-then-is_same g c =
     let lm : FieldLaws m = record { ring = g.met.F.Ring.laws f; inverses = g.met.F.Field.inverses f } in
     let lk : FieldLaws k = record { ring = g.met.G.Ring.laws h; inverses = g.met.G.Field.inverses h } in
     replied_alike m k lm lk c.args.unknowns c.args.a.now.table c.args.b.now.table c.args.question
-    c.in-ok-first.first c.in-ok-first.second c.in-ok-first.ensures.0 c.in-ok-first.ensures.1
+    c.in_ok-first.first c.in_ok-first.second c.in_ok-first.ensures.0 c.in_ok-first.ensures.1
     (c.is_same.ensures.0 c.if-is_same.true)

@@ -10,4 +10,4 @@ loop-j-preserved g c =
     let b = c.args.b.now in
     below_more _ _ c.loop-j.invariant
     (subst (ComparedAt (g.F.Ring.meaning a.field) (g.G.Ring.meaning b.field) c.args.unknowns a.table b.table (Unknown c.loop-j.j))
-    c.in-default.is c.in-ok-difference.ensures)
+    c.in_default.is c.in_ok-difference.ensures)

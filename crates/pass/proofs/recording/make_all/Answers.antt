@@ -14,11 +14,11 @@ loop-call-init g c = (refl, none_made _ _ _ c.new-events.ensures.items)
 pub loop-call-preserved : goal.loop-call-preserved
 loop-call-preserved g c =
     let call = c.in-Some.call in
-    let e = c.in-ok-make.field-0 in
+    let e = c.in_ok-make.field-0 in
     let t = c.loop-call.collection.table in
     let u = c.make.new.collection.table in
-    let pushed = chosen _ _ _ _ c.push.ensures.items (ap is_ok c.in-ok-push.was) in
-    let one = subst (λ f. Makes (g.F.Ring.meaning f) (asked call) t u e) c.loop-call.invariant.0 c.in-ok-make.ensures.made in (
+    let pushed = chosen _ _ _ _ c.push.ensures.items (ap is_ok c.in_ok-push.was) in
+    let one = subst (λ f. Makes (g.F.Ring.meaning f) (asked call) t u e) c.loop-call.invariant.0 c.in_ok-make.ensures.made in (
       c.make.ensures.field ∙ c.loop-call.invariant.0,
       more_made _ c.loop-call.yielded call _ t u (vec_items c.loop-call.events) (vec_items c.push.new.self) e c.loop-call.invariant.1 one pushed,
     )

@@ -13,12 +13,12 @@ returns g c =
     let laws : FieldLaws m = record { ring = g.met.F.Ring.laws field; inverses = g.met.F.Field.inverses field } in
     let n = c.args.unknowns in
     let calls = vec_items c.args.calls in
-    let es = vec_items c.in-ok-events.events in
+    let es = vec_items c.in_ok-events.events in
     let t = c.open-collection.result.table in
     let u = c.make_all.new.collection.table in
-    let opened = subst (λ k. Holds m k [] t) c.in-ok-width.ensures.1 c.open-collection.ensures.log in
-    let made = subst (λ f. MakesAll (g.F.Ring.meaning f) calls t u es) c.open-collection.ensures.field c.in-ok-events.ensures.made in (
+    let opened = subst (λ k. Holds m k [] t) c.in_ok-width.ensures.1 c.open-collection.ensures.log in
+    let made = subst (λ f. MakesAll (g.F.Ring.meaning f) calls t u es) c.open-collection.ensures.field c.in_ok-events.ensures.made in (
       c.publish-published.ensures.field ∙ c.make_all.ensures.field ∙ c.open-collection.ensures.field,
       subst (λ t. Recorded m n calls es t) (sym c.publish-published.ensures.table)
-          (all_recorded m laws n calls t u es c.in-ok-width.ensures.0 opened made),
+          (all_recorded m laws n calls t u es c.in_ok-width.ensures.0 opened made),
     )

@@ -22,7 +22,7 @@ returns-then-from-order g c =
     sym
     (checked_codes order c.args.n o c.if-coefficients-n.false c.if-weights-n.false (Some c.args.n)
     (sym
-    (outside_value order c.args.value c.args.coefficients.now (sym c.in-default.ensures)
+    (outside_value order c.args.value c.args.coefficients.now (sym c.in_default.ensures)
     ∙ cond-false (ltb c.args.value order) _ _ test ∙ ap Some c.if-coefficients-n.false)))
 
 pub returns : goal.returns
@@ -33,5 +33,5 @@ returns g c =
     sym
     (checked_codes order c.args.n o c.if-coefficients-n.false c.if-weights-n.false None
     (sym
-    (outside_value order c.args.value c.args.coefficients.now (sym c.in-default.ensures)
+    (outside_value order c.args.value c.args.coefficients.now (sym c.in_default.ensures)
     ∙ cond-true (ltb c.args.value order) _ _ test)))

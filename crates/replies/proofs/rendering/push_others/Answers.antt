@@ -8,8 +8,8 @@ loop-number-preserved c =
     let xs = c.args.others.now in
     let i = c.loop-number.number-index in
     let before = string_bytes c.args.text in
-    c.in-ok-push_str.ensures.bytes
-    ∙ ap₂ ◌++◌ c.loop-number.invariant (c.as_str.ensures.value ∙ c.in-ok-word.ensures)
+    c.in_ok-push_str.ensures.bytes
+    ∙ ap₂ ◌++◌ c.loop-number.invariant (c.as_str.ensures.value ∙ c.in_ok-word.ensures)
     ∙ flat_map_more (λ n. 32 ∷ decimal n) before (take i xs) (get_or xs i 0)
     ∙ ap (λ zs. before ++ flat_map (λ n. 32 ∷ decimal n) zs) (sym (take_more xs i 0 c.loop-number-test.true))
 

@@ -7,21 +7,21 @@ pub returns-then-not-is_ascii_digit : goal.returns-then-not-is_ascii_digit
 returns-then-not-is_ascii_digit c =
     sym (stops_at_byte _ _ c.loop-byte-test.true (sym c.if-not-is_ascii_digit.ensures.value) c.loop-byte.invariant.1)
 
-pub returns-in-err-tens : goal.returns-in-err-tens
-returns-in-err-tens c =
-    let large = c.in-err-tens.ensures in
-    c.from-residual.ensures ∙ sym (stops_at_value _ _ _ c.loop-byte-test.true (omega arith) c.loop-byte.invariant.2)
+pub returns-in_err-tens : goal.returns-in_err-tens
+returns-in_err-tens c =
+    let large = c.in_err-tens.ensures in
+    c.from_residual.ensures ∙ sym (stops_at_value _ _ _ c.loop-byte-test.true (omega arith) c.loop-byte.invariant.2)
 
-pub returns-in-err-value : goal.returns-in-err-value
-returns-in-err-value c =
-    let tens = c.in-ok-tens.ensures in
-    let large = c.in-err-value.ensures in
-    c.from-residual-in-err-value.ensures ∙ sym (stops_at_value _ _ _ c.loop-byte-test.true (omega arith) c.loop-byte.invariant.2)
+pub returns-in_err-value : goal.returns-in_err-value
+returns-in_err-value c =
+    let tens = c.in_ok-tens.ensures in
+    let large = c.in_err-value.ensures in
+    c.from_residual-in_err-value.ensures ∙ sym (stops_at_value _ _ _ c.loop-byte-test.true (omega arith) c.loop-byte.invariant.2)
 
 pub loop-byte-preserved : goal.loop-byte-preserved
 loop-byte-preserved c =
-    let tens = c.in-ok-tens.ensures in
-    let sum = c.in-ok-value.ensures in
+    let tens = c.in_ok-tens.ensures in
+    let sum = c.in_ok-value.ensures in
     let digit = sym c.if-not-is_ascii_digit.ensures.value in
     let here = c.loop-byte-test.true in
     let inv = c.loop-byte.invariant in

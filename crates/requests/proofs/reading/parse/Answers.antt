@@ -15,7 +15,7 @@ loop-number-smaller c = request_shorter _ _ _ (ap read_request c.in-Line.ensures
 
 pub loop-number-preserved : goal.loop-number-preserved
 loop-number-preserved c =
-    let pushed = chosen _ _ _ _ c.push.ensures.items (ap is_ok c.in-ok-push.was) in
+    let pushed = chosen _ _ _ _ c.push.ensures.items (ap is_ok c.in_ok-push-in-Ok.was) in
     let told = c.in-Ok.ensures in
     let whole = meaningful 1 (lines c.args.text.now) in
     let rest = left c.in-Ok.after in
@@ -25,11 +25,11 @@ loop-number-preserved c =
 
 pub returns-in-Err : goal.returns-in-Err
 returns-in-Err c =
-    let g = gives_fault asked_by _ _ _ c.in-ok-fault.ensures c.in-Err.ensures in
+    let g = gives_fault asked_by _ _ _ c.in_ok-fault-in-Err.ensures c.in-Err.ensures in
     let h = no_more _ _ _ _ c.loop-number.invariant.0 (breaks_off _ _ _ _ _ c.in-Line.ensures.0 g) in
     record { format = h; only = one_reading c.args.text.now _ _ h; back = read_back c.args.text.now _ _ h }
 
 pub returns : goal.returns
 returns c =
-    let h = no_more _ _ _ _ c.loop-number.invariant.0 (ends _ _ c.in-default.ensures) in
+    let h = no_more _ _ _ _ c.loop-number.invariant.0 (ends _ _ c.in_default.ensures) in
     record { format = h; only = one_reading c.args.text.now _ _ h; back = read_back c.args.text.now _ _ h }

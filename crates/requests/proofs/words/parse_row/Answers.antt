@@ -10,20 +10,20 @@ loop-init c =
     let whole : c.args.columns - 0 ≡ c.args.columns = omega arith in
     ap (λ k. Added (vec_items c.args.cells) k (words c.args.text.now)) whole
 
-pub returns-in-default : goal.returns-in-default
-returns-in-default c =
+pub returns-in_default : goal.returns-in_default
+returns-in_default c =
     let k = c.args.columns - (c.loop.counter + 1) in
-    sym (adds_none _ _ k _ (omega arith) c.in-default.ensures) ∙ c.loop.invariant
+    sym (adds_none _ _ k _ (omega arith) c.in_default.ensures) ∙ c.loop.invariant
 
-pub returns-in-default-parse_number : goal.returns-in-default-parse_number
-returns-in-default-parse_number c =
+pub returns-in_default-parse_number : goal.returns-in_default-parse_number
+returns-in_default-parse_number c =
     let k = c.args.columns - (c.loop.counter + 1) in
-    sym (adds_no_number _ _ k _ _ _ (omega arith) c.in-Some.ensures (sym c.in-default-parse_number.ensures)) ∙ c.loop.invariant
+    sym (adds_no_number _ _ k _ _ _ (omega arith) c.in-Some.ensures (sym c.in_default-parse_number.ensures)) ∙ c.loop.invariant
 
 pub loop-preserved : goal.loop-preserved
 loop-preserved c =
     let k = c.args.columns - (c.loop.counter + 1) in
-    let pushed = chosen _ _ _ _ c.push.ensures.items (ap is_ok c.in-ok-push.was) in
+    let pushed = chosen _ _ _ _ c.push.ensures.items (ap is_ok c.in_ok-push.was) in
     sym (adds_one _ _ _ k _ _ _ _ (omega arith) c.in-Some.ensures (sym c.in-Some-parse_number.ensures) pushed) ∙ c.loop.invariant
 
 pub returns-in-None : goal.returns-in-None

@@ -9,8 +9,8 @@ loop-number-preserved c =
     let xs = c.args.numbers.now in
     let i = c.loop-number.number-index in
     let before = string_bytes c.args.text in
-    c.in-ok-push_str.ensures.bytes
-    ∙ ap₂ ◌++◌ c.loop-number.invariant (c.as_str.ensures.value ∙ c.in-ok-word.ensures)
+    c.in_ok-push_str.ensures.bytes
+    ∙ ap₂ ◌++◌ c.loop-number.invariant (c.as_str.ensures.value ∙ c.in_ok-word.ensures)
     ∙ flat_map_more after_blank before (take i xs) (get_or xs i 0)
     ∙ ap (λ zs. before ++ flat_map after_blank zs) (sym (take_more xs i 0 c.loop-number-test.true))
 

@@ -14,7 +14,7 @@ returns c =
     let before = string_bytes c.args.text in
     let some : 0 < length row = omega arith in
     let first : string_bytes c.push_str.new.self ≡ before ++ decimal (get_or row 0 0) =
-    c.in-ok-push_str.ensures.bytes ∙ ap (λ z. before ++ z) (c.as_str.ensures.value ∙ c.in-ok-word.ensures) in
+    c.in_ok-push_str.ensures.bytes ∙ ap (λ z. before ++ z) (c.as_str.ensures.value ∙ c.in_ok-word.ensures) in
     text_is c.push_more_numbers.result _ _
     (ap (λ z. z ++ flat_map after_blank (between 1 (length row) row)) first
     ∙ numbers_spaced before row (get_or row 0 0) (between 1 (length row) row) (first_rest row 0 some))

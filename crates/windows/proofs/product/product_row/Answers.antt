@@ -3,14 +3,14 @@ use Rattle.algebra.proofs.Rows.{row_next, row_end, part_length}
 use Rattle.windows.proofs.RowSteps.{row_added}
 use Rattle.windows.proofs.product.product_row.Goals as goal
 
-pub offset-bounds-table-k : goal.offset-bounds-table-k
-offset-bounds-table-k g c =
+pub offset_bounds-table-k : goal.offset_bounds-table-k
+offset_bounds-table-k g c =
     let n = length c.fill.new.self in
     let e = ap (λ x. length c.args.left.now * x) c.fill.ensures.len in
     omega (arith, row_end c.loop-k.k (length c.args.left.now) n c.loop-k-test.true, row_next c.loop-k.k n)
 
-pub slice-bounds-add_multiple-end : goal.slice-bounds-add_multiple-end
-slice-bounds-add_multiple-end g c =
+pub slice_bounds-add_multiple-end : goal.slice_bounds-add_multiple-end
+slice_bounds-add_multiple-end g c =
     let n = length c.fill.new.self in
     let e = ap (λ x. length c.args.left.now * x) c.fill.ensures.len in
     omega (arith, row_end c.loop-k.k (length c.args.left.now) n c.loop-k-test.true)

@@ -3,19 +3,19 @@ use Rattle.algebra.proofs.Rows.{row_next, row_end, part_length, row_major_all}
 use Rattle.windows.proofs.RowSteps.{row_written}
 use Rattle.windows.proofs.product.product_table.Goals as goal
 
-pub offset-bounds-c-i : goal.offset-bounds-c-i
-offset-bounds-c-i g c =
+pub offset_bounds-c-i : goal.offset_bounds-c-i
+offset_bounds-c-i g c =
     omega (arith, row_end c.loop-i.i c.args.rows c.args.columns c.loop-i-test.true, row_next c.loop-i.i c.args.columns)
 
-pub slice-bounds-product_row-end : goal.slice-bounds-product_row-end
-slice-bounds-product_row-end g c = omega (arith, row_end c.loop-i.i c.args.rows c.args.columns c.loop-i-test.true)
+pub slice_bounds-product_row-end : goal.slice_bounds-product_row-end
+slice_bounds-product_row-end g c = omega (arith, row_end c.loop-i.i c.args.rows c.args.columns c.loop-i-test.true)
 
-pub offset-bounds-a-i : goal.offset-bounds-a-i
-offset-bounds-a-i g c =
+pub offset_bounds-a-i : goal.offset_bounds-a-i
+offset_bounds-a-i g c =
     omega (arith, row_end c.loop-i.i c.args.rows c.args.middle c.loop-i-test.true, row_next c.loop-i.i c.args.middle)
 
-pub slice-bounds-product_row-end-in-loop-i : goal.slice-bounds-product_row-end-in-loop-i
-slice-bounds-product_row-end-in-loop-i g c = omega (arith, row_end c.loop-i.i c.args.rows c.args.middle c.loop-i-test.true)
+pub slice_bounds-product_row-end-in-loop-i : goal.slice_bounds-product_row-end-in-loop-i
+slice_bounds-product_row-end-in-loop-i g c = omega (arith, row_end c.loop-i.i c.args.rows c.args.middle c.loop-i-test.true)
 
 pub loop-i-preserved : goal.loop-i-preserved
 loop-i-preserved g c =

@@ -7,19 +7,19 @@ use Rattle.recovery.specs.Tables.{Holds}
 use Rattle.recovery.proofs.Holding.{holds_refused}
 use Rattle.recovery.proofs.collection.Collection.offer.Goals as goal
 
-pub returns-in-err-check : goal.returns-in-err-check
-returns-in-err-check g c =
+pub returns-in_err-check : goal.returns-in_err-check
+returns-in_err-check g c =
     let m = g.F.Ring.meaning c.args.self.now.field in
     let o = offer c.args.coefficients.now c.args.value c.args.weights.now in
-    let p = err_from_is_err_and c.from-residual.result c.from-residual.ensures.1 in
-    let e = sym c.in-err-check.ensures in
+    let p = err_from_is_err_and c.from_residual.result c.from_residual.ensures.1 in
+    let e = sym c.in_err-check.ensures in
     rw (p.1, p.2) (record {
       field = refl;
       width = refl;
       answer = sym e;
       refused = λ x k. (refl, refl);
       unkept = λ no. refl;
-      log = λ n log h. holds_refused m n c.args.self.now.table log o (told c.in-err-check.field-0.0) e h;
+      log = λ n log h. holds_refused m n c.args.self.now.table log o (told c.in_err-check.field-0.0) e h;
     })
 
 pub returns : goal.returns
@@ -29,7 +29,7 @@ returns g c =
     record {
       field = refl;
       width = c.judge.ensures.width;
-      answer = c.in-ok-check.ensures;
+      answer = c.in_ok-check.ensures;
       refused = λ x e. absurd (err_ok (sym e));
       unkept = λ no. ap (λ t. record { field = c.args.self.now.field; table = t }) (c.judge.ensures.unkept (λ k e. no k (ap Ok e)));
       log = λ n log h.

@@ -11,7 +11,7 @@ loop-i-init c = (omega arith, lit< tt, refl)
 
 pub loop-i-preserved : goal.loop-i-preserved
 loop-i-preserved c =
-    let i = c.loop-i.-i in
+    let i = c.loop-i._i in
     let square = c.loop-i.square in
     let power = c.loop-i.power in
     let squared = c.product_of-square.ensures.value in
@@ -28,7 +28,7 @@ pub returns : goal.returns
 returns c =
     let a = c.args.a in
     let power = c.loop-i.power in
-    let over : 7 - c.loop-i.-i ≡ 0 = omega arith in
+    let over : 7 - c.loop-i._i ≡ 0 = omega arith in
     let is : power ≡ inverse_of 0x11D a =
     sym (ap (λ z. squares_by 0x11D z c.loop-i.square power) over) ∙ c.loop-i.invariant.2 in
     record {

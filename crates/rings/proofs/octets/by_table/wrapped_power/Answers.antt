@@ -10,11 +10,11 @@ pub returns : goal.returns
 returns c =
     let i = c.args.i in
     elim c.if-i-lt255.branch [
-      | then-i-lt255 w ↦ c.power.ensures ∙ ap (power_of 0x11D) w.power_is
+      | then-i-lt255 w ↦ c.power.ensures ∙ ap (power_of 0x11D) w.power-is
       | else-i-lt255 w ↦
           let back : i - 255 + 255 ≡ i = omega (arith, w.if-i-lt255.false) in
           c.power.ensures
-          ∙ ap (power_of 0x11D) w.power_is
+          ∙ ap (power_of 0x11D) w.power-is
           ∙ sym (power_again tests (i - 255))
           ∙ ap (power_of 0x11D) back
     ]

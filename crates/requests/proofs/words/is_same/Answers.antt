@@ -1,8 +1,0 @@
--- Equal slices are equal lists.
-use Rattle.std.proofs.Common.{rules}
-use Rattle.std.proofs.lemmas.Slice.Eq.{bytes_eq-Decides, slice_eq-Decides}
-use Rattle.requests.proofs.words.is_same.Goals as goal
-use Rattle.std.proofs.lemmas.Bool.Decides.{Decides-eqb}
-
-pub returns : goal.returns
-returns c = search (rules, bytes_eq-Decides, slice_eq-Decides Decides-eqb _ _ _ c.eq.ensures)
