@@ -9,9 +9,9 @@ use Rattle.pass.proofs.asking.ask_solution.Goals as goal
 
 pub returns : goal.returns
 returns g c =
-    let zeros = c.deref-mut.ensures.value ∙ c.in_ok-content.ensures.items-if-clones-equal (λ y e. e) in
+    let zeros = c.deref_mut.ensures.value ∙ c.in_ok-content.ensures.items_if_clones_equal (λ y e. e) in
     let full : length c.solution-result.new.out ≡ c.in_ok-content.content.len =
-    omega (arith, c.solution-result.auto.out, c.deref-mut.ensures.len) in
+    omega (arith, c.solution-result.auto.out, c.deref_mut.ensures.len) in
     let written = with_items_is c.in_ok-content.content c.solution-result.new.out full in
     λ n log h.
     answered _ n log _ _ _ _ (ap solution zeros) (ap (wrote (outcome told c.solution-result.result)) (sym written))

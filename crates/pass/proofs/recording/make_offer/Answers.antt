@@ -17,7 +17,7 @@ returns g c =
     let a = outcome told c.offer-answer.result in
     let same : vec_items c.in_ok-before.before ≡ vec_items c.args.weights = each_same _ _ c.in_ok-before.ensures.cases.0 in
     let full : length c.offer-answer.new.weights ≡ c.args.weights.len =
-    omega (arith, c.offer-answer.auto.weights, c.deref-mut.ensures.len) in
+    omega (arith, c.offer-answer.auto.weights, c.deref_mut.ensures.len) in
     let weights = with_items_is c.args.weights c.offer-answer.new.weights full in
     record {
       field = c.offer-answer.ensures.field;
@@ -25,8 +25,8 @@ returns g c =
         asks = ap (λ ws. to_take (offer cs v ws)) same;
         adds = λ n log h.
             subst (λ e. Holds m n (e ∷ log) c.offer-answer.new.self.table)
-            (ap (λ xs. offered (offer xs v c.deref-mut.result.now) a c.offer-answer.new.weights) c.deref.ensures.value
-            ∙ ap (λ ws. offered (offer cs v ws) a c.offer-answer.new.weights) (c.deref-mut.ensures.value ∙ sym same)
+            (ap (λ xs. offered (offer xs v c.deref_mut.result.now) a c.offer-answer.new.weights) c.deref.ensures.value
+            ∙ ap (λ ws. offered (offer cs v ws) a c.offer-answer.new.weights) (c.deref_mut.ensures.value ∙ sym same)
             ∙ ap (λ ws. offered (offer cs v (vec_items c.in_ok-before.before)) a ws) (sym weights))
             (c.offer-answer.ensures.log n log h);
       };

@@ -8,4 +8,4 @@ use Rattle.replies.proofs.rendering.render_product.Given as goal
 -- the rows that are left complete the text
 abbrev pub invariant-loop-row : goal.invariant-loop-row
 invariant-loop-row l =
-    string_bytes l.text ++ flat_map line_of (row_words (l.table.rows - l.-row) l.table.columns l.rest) ≡ product_text (matrix_of l.table)
+    string_bytes l.text ++ flat_map line_of (row_words (l.table.rows - l._row) l.table.columns l.rest) ≡ product_text (matrix_of l.table)

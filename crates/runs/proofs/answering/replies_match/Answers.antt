@@ -6,14 +6,14 @@ loop-one-init g c = asking_none _ g.row.N c.args.asked.now c.args.published.now.
 
 pub loop-one-preserved : goal.loop-one-preserved
 loop-one-preserved g c =
-    asking_more _ g.row.N c.args.asked.now c.args.published.now.table c.one-item.result c.loop-one.one_Index c.loop-one-test.true
+    asking_more _ g.row.N c.args.asked.now c.args.published.now.table c.one-item.result c.loop-one.one-index c.loop-one-test.true
     c.one-item.is c.loop-one.invariant c.if-not-reply_matches.ensures
 
 pub returns-then-not-reply_matches : goal.returns-then-not-reply_matches
 returns-then-not-reply_matches g c =
-    asking_fails _ g.row.N c.args.asked.now c.args.published.now.table c.one-item.result c.loop-one.one_Index c.loop-one-test.true
+    asking_fails _ g.row.N c.args.asked.now c.args.published.now.table c.one-item.result c.loop-one.one-index c.loop-one-test.true
     c.one-item.is c.loop-one.invariant c.if-not-reply_matches.ensures
 
 pub returns : goal.returns
 returns g c =
-    asking_all _ g.row.N c.args.asked.now c.args.published.now.table c.loop-one.one_Index c.loop-one-test.false c.loop-one.invariant
+    asking_all _ g.row.N c.args.asked.now c.args.published.now.table c.loop-one.one-index c.loop-one-test.false c.loop-one.invariant
