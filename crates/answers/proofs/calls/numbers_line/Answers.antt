@@ -7,6 +7,6 @@ pub returns : goal.returns
 returns c =
     let numbers = flat_map after_blank c.args.numbers.now in
     c.in_ok-push.ensures.bytes
-    ∙ ap₂ ◌++◌ (c.in_ok-text-2.ensures ∙ ap (λ z. z ++ numbers) c.in_ok-text.ensures.made)
+    ∙ ap₂ ◌++◌ (c.in_ok-text-2.ensures ∙ ap (λ z. z ++ numbers) c.in_ok-text.ensures.ok)
     (c.in_ok-push.ensures.ascii (lit< tt))
     ∙ append_assoc c.args.head.now numbers (10 ∷ [])

@@ -27,10 +27,10 @@ pub returns : goal.returns
 returns g c =
     let m = g.F.Ring.meaning c.args.collection.now.field in
     let calls = c.into_iter-call-iterator.result in
-    let came : into_iter_items calls ≡ vec_items c.args.calls = c.into_iter-call-iterator.ensures.into_iter-gives.0 in
+    let came : into_iter_items calls ≡ vec_items c.args.calls = c.into_iter-call-iterator.ensures.into_iter_gives.0 in
     let road = YieldsList-from_shown into_iter_steps (λ x. x) into_iter_items (λ s t h. sym s.rest.ok.0 ∙ h.0) (λ s x t h. h.0) calls in
     let all =
-    (YieldsList-end road c.loop-call.yielded c.loop-call.call-iterator c.loop-call.yielded-by
+    (YieldsList-end road c.loop-call.yielded c.loop-call.call-iterator c.loop-call.yielded_by
     c.next.result c.next.new.self c.in-None.is c.next.ensures.steps).0 in
     record {
       field = c.loop-call.invariant.0;
