@@ -6,22 +6,20 @@ use requests::fault::Fault;
 use requests::reading::parse;
 use requests::request::Request;
 use std::io::Read;
+use std::process::ExitCode;
 use std::{env, fs};
 
-// Why the program ends with status 1; the reason was printed.
-#[derive(Drop)]
-pub struct Failed;
-
-fn main(rt: HostRuntime) -> Result<(), Failed> {
+// Where the status is 1, the reason was printed.
+fn main(rt: HostRuntime) -> ExitCode {
     match run(&rt) {
-        Ok(None) => Ok(()),
+        Ok(None) => ExitCode::SUCCESS,
         Ok(Some(fault)) => {
             let _ = eprintln!(rt; "matrix: {fault}");
-            Err(Failed)
+            ExitCode::FAILURE
         }
         Err(error) => {
             let _ = eprintln!(rt; "matrix: {error}");
-            Err(Failed)
+            ExitCode::FAILURE
         }
     }
 }

@@ -11,18 +11,16 @@ use crate::input::{read_file, read_input};
 use crate::solving::solve_pass;
 use anyhow::anyhow;
 use std::env;
+use std::process::ExitCode;
 
-// Why the program ends with status 1; the reason was printed.
-#[derive(Drop)]
-pub struct Failed;
-
-fn main(rt: HostRuntime) -> Result<(), Failed> {
+// Where the status is 1, the reason was printed.
+fn main(rt: HostRuntime) -> ExitCode {
     match run(&rt) {
-        Ok(true) => Ok(()),
-        Ok(false) => Err(Failed),
+        Ok(true) => ExitCode::SUCCESS,
+        Ok(false) => ExitCode::FAILURE,
         Err(error) => {
             let _ = eprintln!(rt; "recover: {error}");
-            Err(Failed)
+            ExitCode::FAILURE
         }
     }
 }
