@@ -1,4 +1,5 @@
 // Runs collections of equations on the edges of their refusals, on worked lines and on a block of the most unknowns.
+#![tactic(auto)]
 
 mod lines;
 mod refusals;

@@ -1,4 +1,6 @@
 // The text of a pass, read into a list of commands.
+#![tactic(auto)]
+
 pub mod command;
 pub mod fault;
 pub mod keyword;

@@ -1,22 +1,25 @@
 // Texts with what is read from them.
 use crate::command::{Command, FieldName};
 use crate::reading::parse;
+use std::alloc::Global;
+use std::process::Abort;
 use std::test::*;
 
 // How many commands are read, and the message of the fault after them, empty where there is none.
-fn check_text(rt: HostRuntime, text: &[u8], commands: usize, message: &str) -> Result<(), Fail> {
-    let parsed = parse(rt.alloc(), text)?;
-    assert_eq!(parsed.commands.len(), commands);
+fn check_text(
+    rt: &impl Abort,
+    heap: Global,
+    text: &[u8],
+    commands: usize,
+    message: &str,
+) -> Result<(), Fail> {
+    let parsed = parse(heap, text)?;
+    assert_eq!(rt; parsed.commands.len(), commands);
     match parsed.fault {
-        None => {
-            assert_eq!("", message);
-            Ok(())
-        },
-        Some(fault) => {
-            assert_eq!(fault.to_string(rt.alloc())?.as_str(), message);
-            Ok(())
-        },
+        None => assert_eq!(rt; "", message),
+        Some(fault) => assert_eq!(rt; fault.to_string(heap)?.as_str(), message),
     }
+    Ok(())
 }
 
 #[test]
@@ -40,7 +43,8 @@ fn reads_an_offer(rt: HostRuntime) -> Result<(), Fail> {
 #[test]
 fn reads_blocks(rt: HostRuntime) -> Result<(), Fail> {
     check_text(
-        rt,
+        &rt,
+        rt.alloc(),
         b"# two blocks\r\nunknowns 1\r\n\toffer | 0\r\nrank\r\n\r\nunknowns 2\npublish\nsolution\nkernel 0\nsymbol 1\nreport",
         9,
         "",
@@ -50,25 +54,29 @@ fn reads_blocks(rt: HostRuntime) -> Result<(), Fail> {
 #[test]
 fn finds_faults_of_order(rt: HostRuntime) -> Result<(), Fail> {
     check_text(
-        rt,
+        &rt,
+        rt.alloc(),
         b"\nrank\n",
         0,
         "line 2: expected the command `field NAME` or `unknowns N`",
     )?;
     check_text(
-        rt,
+        &rt,
+        rt.alloc(),
         b"field octets\nfield octets\n",
         0,
         "line 2: expected the command `unknowns N`",
     )?;
     check_text(
-        rt,
+        &rt,
+        rt.alloc(),
         b"unknowns 1\nsolution\n",
         1,
         "line 2: expected `offer`, `rank`, `publish` or `unknowns`",
     )?;
     check_text(
-        rt,
+        &rt,
+        rt.alloc(),
         b"unknowns 1\npublish\nreport\noffer 1 | 1\n",
         3,
         "line 4: expected `solution`, `kernel K`, `symbol J`, `report` or `unknowns N`",
@@ -78,25 +86,29 @@ fn finds_faults_of_order(rt: HostRuntime) -> Result<(), Fail> {
 #[test]
 fn finds_faults_of_words(rt: HostRuntime) -> Result<(), Fail> {
     check_text(
-        rt,
+        &rt,
+        rt.alloc(),
         b"field reals\n",
         0,
         "line 1: expected one field after `field`: residues, octets or octets-by-shifts",
     )?;
     check_text(
-        rt,
+        &rt,
+        rt.alloc(),
         b"unknowns 4294967296\n",
         0,
         "line 1: expected one whole number below 2^32 after `unknowns`",
     )?;
     check_text(
-        rt,
+        &rt,
+        rt.alloc(),
         b"unknowns 2\noffer 1 2\n",
         1,
         "line 2: expected whole numbers below 2^32, `|` and one whole number after `offer`",
     )?;
     check_text(
-        rt,
+        &rt,
+        rt.alloc(),
         b"unknowns 2\nrank 2\n",
         1,
         "line 2: expected nothing after `rank`",

@@ -1,13 +1,12 @@
 -- Numbers that pass a test, and sums over them.
-use Rattle.std.proofs.Common.{◌≡◌, ℕ, zero, suc, ◌+◌, ◌-◌, ◌<◌, ◌≤◌, Bool, true, false, cond, not, eqb, ◌≢◌, ◌⊎◌, List, [], ◌∷◌, ◌++◌, length, get_or, sym, refl, ap, ◌∙◌, subst, ap₂, inl, inr, add-suc, suc-add, arith, length-append, eq-eqb, ne_eqb, eqb-true}
+use Rattle.std.proofs.Common.{◌≡◌, ℕ, zero, suc, ◌+◌, ◌-◌, ◌<◌, ◌≤◌, Bool, true, false, cond, eqb, ◌⊎◌, List, [], ◌∷◌, ◌++◌, length, get_or, sym, refl, ap, ◌∙◌, subst, ap₂, inl, inr, suc-add, arith, length-append, eq-eqb, eqb-true}
 use Rattle.std.proofs.lemmas.List.{get_or_append_left, get_or_at, append-nil}
 use native.Mathlib.Decide.{ℕ_discrete}
-use borrow.Author.Tests.{eqb-false}
 use Rattle.std.proofs.lemmas.Bool.{cond-true, cond-false, cases_Bool, true≢false}
 use Rattle.algebra.specs.Among.{among, member}
-use Rattle.linear.specs.Field.{FieldOn, FieldLaws, RingOn, ops}
+use Rattle.linear.specs.Field.{FieldOn, ops}
 use Rattle.algebra.specs.Operations.{sum}
-use Rattle.linear.specs.Solutions.{by, frees}
+use Rattle.linear.specs.Solutions.{frees}
 use Rattle.linear.proofs.Identities.{zero-+}
 use Rattle.algebra.proofs.Sums.{sum_cong}
 use Rattle.linear.proofs.Sums.{sum_front}

@@ -1,6 +1,5 @@
 -- Lists of choices: what stands in them, that nothing stands twice, and how long they are.
-use Rattle.std.proofs.Common.{◌≡◌, ℕ, zero, suc, ◌+◌, ◌*◌, ◌^◌, ◌<◌, ◌⊎◌, List, [], ◌∷◌, ◌++◌, map, length, replicate, sym, refl, ap, ◌∙◌, subst, ap₂, inl, inr, suc-mul, mul_comm, pow-suc, zero-mul, arith, length-append}
-use native.Mathlib.Nat.{pow-zero}
+use Rattle.std.proofs.Common.{◌≡◌, ◌+◌, ◌*◌, ◌⊎◌, List, [], ◌∷◌, ◌++◌, map, length, sym, refl, ap, ◌∙◌, subst, ap₂, inl, inr, zero-mul, arith, length-append}
 use lib.ListN.{length-map}
 use Rattle.linear.specs.Choices.{In, Apart, prefixed, choices, Each, sizes}
 

@@ -1,13 +1,12 @@
 -- Lists that have each element once, by places, and the list of all codes.
-use Rattle.std.proofs.Common.{◌≡◌, ℕ, zero, suc, ◌+◌, ◌^◌, ◌<◌, ◌≤◌, ◌⊎◌, List, [], ◌∷◌, map, length, get_or, sym, refl, ap, ◌∙◌, subst, ap₂, inl, inr, arith}
+use Rattle.std.proofs.Common.{◌≡◌, ℕ, zero, suc, ◌+◌, ◌<◌, ◌≤◌, ◌⊎◌, List, [], ◌∷◌, map, length, get_or, sym, refl, ap, subst, ap₂, inl, inr, arith}
 use native.Mathlib.Decide.{ℕ_discrete}
-use lib.ListN.{length-map}
 use Rattle.std.specs.List.{range_with_len}
 use Rattle.std.proofs.lemmas.List.FromFn.{length-map-range_with_len}
 use Rattle.algebra.specs.Meaning.{Meaning}
 use Rattle.linear.specs.Field.{FieldLaws}
 use Rattle.linear.specs.Choices.{In, Apart}
-use Rattle.linear.proofs.Choices.{in_map, map_in, apart_map}
+use Rattle.linear.proofs.Choices.{map_in, apart_map}
 use Rattle.linear.proofs.Codes.{Code, same_code, code, code_at, code_same}
 
 module _ {A : Type 0} (d : A) where

@@ -5,13 +5,12 @@ use native.Mathlib.Nat.{pow-zero}
 use lib.ListN.{length-map}
 use Rattle.std.specs.List.{range_with_len}
 use Rattle.std.proofs.lemmas.List.FromFn.{get_or-map-range_with_len, length-map-range_with_len, fill_by_all}
-use Rattle.linear.specs.Field.{FieldOn, FieldLaws, RingOn, ops}
-use Rattle.algebra.specs.Operations.{sum, dot}
+use Rattle.linear.specs.Field.{FieldOn, ops}
 use Rattle.linear.specs.Table.{Free, Pivot, Reduced, Sat, kern}
 use Rattle.algebra.specs.Matrix.{tabulate}
 use Rattle.linear.specs.Choices.{In, Apart, choices, Each, sizes}
 use Rattle.linear.specs.Solutions.{by, frees, cell, vector, solutions}
-use Rattle.linear.proofs.Identities.{units, zero-+, *-zero}
+use Rattle.linear.proofs.Identities.{units, *-zero}
 use Rattle.algebra.proofs.Sums.{sum_cong}
 use Rattle.linear.proofs.Sums.{dot_cong}
 use Rattle.linear.proofs.Solving.{point, point_sat, sat_point, point_kern, row_zero, kern_pivot}

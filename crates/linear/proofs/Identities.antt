@@ -1,5 +1,5 @@
 -- Identities of commutative rings, and rulesets that bring both sides of one to the same form.
-use Rattle.std.proofs.Common.{◌≡◌, sym, refl, ap, ◌∙◌}
+use Rattle.std.proofs.Common.{◌≡◌, sym, ap, ◌∙◌}
 use Rattle.linear.specs.Field.{RingOn}
 
 module _ {K : Type 0} (F : RingOn K) where

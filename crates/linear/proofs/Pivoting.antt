@@ -1,12 +1,12 @@
 -- The step that takes one equation more into a reduced table.
-use Rattle.std.proofs.Common.{◌≡◌, ℕ, zero, suc, ◌<◌, ◌⊎◌, sym, refl, ap, ◌∙◌, subst, ap₂, inl, inr, arith}
+use Rattle.std.proofs.Common.{◌≡◌, ℕ, ◌<◌, ◌⊎◌, sym, ap, ◌∙◌, ap₂, inl, inr, arith}
 use native.Mathlib.Decide.{ℕ_discrete, dec_lt}
-use Rattle.linear.specs.Field.{FieldOn, FieldLaws, RingOn, ops}
+use Rattle.linear.specs.Field.{FieldOn, ops}
 use Rattle.algebra.specs.Operations.{sum, dot}
-use Rattle.linear.specs.Table.{unit, unit_same, unit_other, Free, Pivot, Reduced, Sat, res, resv, kern}
-use Rattle.linear.proofs.Identities.{units, rings, zero-+, +-zero, zero-*, *-zero, one-*, *-one, *-comm, *-assoc, dist_r, neg-*, +-neg, cancel, +_comm, neg_zero}
+use Rattle.linear.specs.Table.{unit_same, unit_other, Free, Pivot, Reduced, Sat, res, resv, kern}
+use Rattle.linear.proofs.Identities.{units, rings, zero-+, *-zero, one-*, *-comm, *-assoc, dist_r, neg-*, cancel, +_comm}
 use Rattle.algebra.proofs.Sums.{sum_cong}
-use Rattle.linear.proofs.Sums.{sum_zero, sum_add, sum_neg, sum_mul, dot_add, dot_neg, dot_mul, dot_comm, dot_cong, dot_rows}
+use Rattle.linear.proofs.Sums.{sum_add, sum_neg, sum_mul, dot_rows}
 use Rattle.linear.proofs.Solving.{res_pivot, row_zero}
 
 module _ {K : Type 0} (F : FieldOn K) (n : ℕ) (R : ℕ → ℕ → K) (val : ℕ → K) (c : ℕ → K) (b : K) where

@@ -1,11 +1,11 @@
 -- What a reduced table leaves: its solution, its kernel vectors, and what an equation gives at the vectors that satisfy it.
-use Rattle.std.proofs.Common.{◌≡◌, ℕ, zero, suc, ◌<◌, ◌⊎◌, sym, refl, ap, ◌∙◌, subst, ap₂, inl, inr, arith}
-use Rattle.linear.specs.Field.{FieldOn, FieldLaws, RingOn, ops}
+use Rattle.std.proofs.Common.{◌≡◌, ℕ, ◌<◌, ◌⊎◌, sym, ap, ◌∙◌, ap₂, inl, inr}
+use Rattle.linear.specs.Field.{FieldOn, ops}
 use Rattle.algebra.specs.Operations.{sum, dot}
 use Rattle.linear.specs.Table.{unit, unit_same, unit_other, Free, Pivot, Reduced, Sat, res, resv, kern}
-use Rattle.linear.proofs.Identities.{sorts, units, rings, zero-+, +-zero, zero-*, *-zero, one-*, *-one, *-comm, *-assoc, dist_l, dist_r, neg-*, *-neg, +-neg, +-neg-in, cancel, +_comm, far1}
+use Rattle.linear.proofs.Identities.{rings, +-zero, zero-*, *-zero, one-*, *-one, *-comm, *-assoc, dist_l, dist_r, neg-*, *-neg, +-neg, cancel, far1}
 use Rattle.algebra.proofs.Sums.{sum_cong}
-use Rattle.linear.proofs.Sums.{sum_zero, sum_add, sum_neg, sum_single, sum_swap, dot_add, dot_neg, dot_mul, dot_comm, dot_cong, dot_unit, dot_rows}
+use Rattle.linear.proofs.Sums.{sum_zero, sum_add, sum_neg, sum_single, dot_add, dot_neg, dot_mul, dot_cong, dot_unit, dot_rows}
 
 module _ {K : Type 0} (F : FieldOn K) (n : ℕ) (R : ℕ → ℕ → K) (val : ℕ → K) where
   open F.ring.ops use {𝟘, 𝟙, ◌⊕◌ as ◌+◌, ◌⊗◌ as ◌*◌, ⊖}

@@ -5,7 +5,7 @@ use Rattle.algebra.specs.Operations.{sum, dot}
 use Rattle.algebra.proofs.Sums.{sum_cong}
 use Rattle.linear.specs.Field.{RingOn}
 use Rattle.linear.specs.Table.{unit, unit_same, unit_other}
-use Rattle.linear.proofs.Identities.{+_assoc, sorts, units, rings, zero-+, +-zero, zero-*, *-zero, dist_l, neg_sum, neg_zero, *-one, *-comm, *-neg, dist_r, neg-*}
+use Rattle.linear.proofs.Identities.{+_assoc, sorts, zero-+, +-zero, zero-*, *-zero, dist_l, neg_sum, neg_zero, *-one, *-comm, *-neg, dist_r}
 
 module _ {K : Type 0} (F : RingOn K) where
   open F.ops use {𝟘, 𝟙, ◌⊕◌ as ◌+◌, ◌⊗◌ as ◌*◌, ⊖}

@@ -1,14 +1,13 @@
 -- Equations on codes that were kept one by one have a reduced table, with weights that build it from them.
-use Rattle.std.proofs.Common.{◌≡◌, ℕ, suc, ◌+◌, ◌<◌, ◌≤◌, ◌⊎◌, List, [], ◌∷◌, ◌++◌, length, sym, refl, ap, ◌∙◌, ap₂, inl, inr, arith}
-use native.Mathlib.Decide.{ℕ_discrete}
+use Rattle.std.proofs.Common.{◌≡◌, ℕ, ◌+◌, ◌<◌, ◌≤◌, ◌⊎◌, List, [], ◌∷◌, ◌++◌, length, sym, refl, ap, ◌∙◌, ap₂, inl, inr, arith}
 use Rattle.algebra.specs.Meaning.{Meaning}
 use Rattle.algebra.specs.Operations.{sum, dot}
-use Rattle.algebra.specs.Vectors.{Equation, row, Vector, Sound, Sounds, Satisfies, Possible}
+use Rattle.algebra.specs.Vectors.{Equation, row, Sound, Sounds, Satisfies, Possible}
 use Rattle.algebra.proofs.Sums.{sum_cong}
-use Rattle.linear.specs.Field.{FieldOn, FieldLaws, ops}
+use Rattle.linear.specs.Field.{FieldOn, FieldLaws}
 use Rattle.linear.specs.Table.{unit, unit_other, Free, Pivot, Reduced, Sat, res, resv, kern}
 use Rattle.linear.specs.Solutions.{frees}
-use Rattle.linear.proofs.Identities.{units, rings, zero-*, *-zero, +-neg, cancel, +-zero, neg_neg, neg_zero}
+use Rattle.linear.proofs.Identities.{units, *-zero, +-neg, cancel, +-zero, neg_neg, neg_zero}
 use Rattle.linear.proofs.Sums.{sum_zero}
 use Rattle.linear.proofs.Solving.{res_pivot, determined, open_row}
 use Rattle.linear.proofs.Pivoting.{rows, vals, norm, q_free, norm_q, norm_zero, rows_q, rows_other, step_reduced, sat_step}

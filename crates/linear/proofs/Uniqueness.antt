@@ -1,12 +1,11 @@
 -- Two reduced tables with the same satisfying vectors are equal.
-use Rattle.std.proofs.Common.{◌≡◌, ℕ, zero, suc, ◌<◌, ◌⊎◌, sym, refl, ap, ◌∙◌, subst, ap₂, inl, inr, arith}
-use native.Mathlib.Decide.{ℕ_discrete, dec_lt}
-use Rattle.linear.specs.Field.{FieldOn, FieldLaws, RingOn, ops}
-use Rattle.algebra.specs.Operations.{sum, dot}
-use Rattle.linear.specs.Table.{unit, unit_same, unit_other, Free, Pivot, Reduced, Sat, res, resv, kern}
-use Rattle.linear.proofs.Identities.{sorts, units, rings, zero-+, +-zero, zero-*, *-zero, one-*, *-one, +-neg, cancel, +_comm, neg_zero}
-use Rattle.algebra.proofs.Sums.{sum_cong}
-use Rattle.linear.proofs.Sums.{sum_zero, sum_add, sum_neg, sum_single, dot_add, dot_neg, dot_cong, dot_unit}
+use Rattle.std.proofs.Common.{◌≡◌, ℕ, ◌<◌, ◌⊎◌, sym, ap, ◌∙◌, ap₂, inl, inr, arith}
+use native.Mathlib.Decide.{dec_lt}
+use Rattle.linear.specs.Field.{FieldOn, ops}
+use Rattle.algebra.specs.Operations.{dot}
+use Rattle.linear.specs.Table.{unit, unit_same, unit_other, Free, Pivot, Reduced, Sat}
+use Rattle.linear.proofs.Identities.{units, +-zero, zero-*, *-zero, one-*, +-neg, cancel, +_comm}
+use Rattle.linear.proofs.Sums.{sum_single, dot_add, dot_neg, dot_cong, dot_unit}
 use Rattle.linear.proofs.Solving.{point, point_sat, fixed, val_sat, row_zero}
 
 module _ {K : Type 0} (F : FieldOn K) (n : ℕ) where

@@ -1,8 +1,8 @@
 -- Weights that build a table's rows from equations, and what a step makes of them.
-use Rattle.std.proofs.Common.{◌≡◌, ℕ, zero, suc, ◌<◌, sym, refl, ap, ◌∙◌, subst, ap₂, arith}
-use Rattle.linear.specs.Field.{FieldOn, FieldLaws, RingOn, ops}
+use Rattle.std.proofs.Common.{◌≡◌, ℕ, suc, ◌<◌, sym, ap, ◌∙◌, ap₂, arith}
+use Rattle.linear.specs.Field.{FieldOn, ops}
 use Rattle.algebra.specs.Operations.{sum, dot}
-use Rattle.linear.specs.Table.{unit, unit_same, unit_other, Sat, res, resv, kern}
+use Rattle.linear.specs.Table.{unit, unit_same, unit_other, Sat}
 use Rattle.linear.proofs.Identities.{units, rings, sorts, +-zero, zero-+, zero-*, *-zero, one-*, +_comm, neg-*}
 use Rattle.algebra.proofs.Sums.{sum_cong}
 use Rattle.linear.proofs.Sums.{sum_zero, sum_add, sum_neg, sum_mul, sum_mul_r, sum_swap, dot_rows}

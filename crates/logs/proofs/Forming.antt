@@ -6,14 +6,14 @@ use Rattle.std.proofs.lemmas.Bool.{cases_Bool, cond-true, cond-false, not-true, 
 use Rattle.algebra.specs.Among.{among}
 use Rattle.algebra.specs.Meaning.{Meaning}
 use Rattle.algebra.specs.Operations.{sum, dot}
-use Rattle.algebra.specs.Vectors.{Equation, nothing, row, entries, Vector, Sound, Sounds}
+use Rattle.algebra.specs.Vectors.{Equation, nothing, row, entries, Sound, Sounds}
 use Rattle.algebra.proofs.Sums.{sum_cong}
 use Rattle.linear.specs.Field.{FieldOn, FieldLaws}
 use Rattle.linear.specs.Table.{Free, Pivot, res}
 use Rattle.linear.proofs.Identities.{*-zero, from_less}
 use Rattle.linear.proofs.Solving.{open_row, val_sat}
 use Rattle.linear.proofs.Among.{among_yes, among_no, among_each, among_rising, among_once, sum_among}
-use Rattle.linear.proofs.Codes.{Code, same_code, code, code_at, code_same, codes_at, vec, field, code_ops}
+use Rattle.linear.proofs.Codes.{Code, same_code, code, code_at, code_same, vec, field, code_ops}
 use Rattle.linear.proofs.Systems.{tabulated, coef, value_of, listed, listed_vector, listed_at, listed_builds, listed-value}
 use Rattle.linear.proofs.Tables.{Tabled, tabled_few}
 use Rattle.logs.specs.Reduced.{LeadsAt, Built, ReducedForm, Reduction}

@@ -1,10 +1,7 @@
 -- Every log over a field keeps the promises, and logs over two fields of one meaning agree.
-use Rattle.std.proofs.Common.{ℕ}
 use Rattle.algebra.specs.Meaning.{Meaning}
 use Rattle.linear.specs.Field.{FieldLaws}
-use Rattle.logs.specs.Logs.{Made}
-use Rattle.logs.specs.Offers.{Log}
-use Rattle.logs.specs.Promises.{Promises, Promised, Agree}
+use Rattle.logs.specs.Promises.{Promised, Agree}
 use Rattle.logs.proofs.Counted.{log_counted}
 use Rattle.logs.proofs.Settling.{log_refuted, log_missed, log_settled, log_ordered}
 use Rattle.logs.proofs.Spanning.{log_basis, log_only, log_each}

@@ -1,10 +1,10 @@
 -- What is answered after publication, by the kept equations and their reduced form.
-use Rattle.std.specs.Prelude.{◌≡◌, ℕ, ◌-◌, ◌<◌, cond, not, ◌≢◌, ◌⊎◌, List, [], length, Ok, Err, Result, ◌==◌, nat_lt, slice_index}
+use Rattle.std.specs.Prelude.{◌≡◌, ℕ, ◌-◌, ◌<◌, cond, not, ◌≢◌, List, [], length, Ok, Err, Result, ◌==◌, nat_lt, slice_index}
 use Rattle.algebra.specs.Among.{among, member}
 use Rattle.algebra.specs.Meaning.{Meaning}
 use Rattle.algebra.specs.Operations.{operations, dot}
 use Rattle.algebra.specs.Outcome.{Told, refused}
-use Rattle.algebra.specs.Vectors.{Equation, row, entries, Vector, Possible}
+use Rattle.algebra.specs.Vectors.{row, entries, Vector}
 use Rattle.logs.specs.declared.answer.Symbol.{Symbol}
 use Rattle.logs.specs.declared.answer.Symbol.TheVariants.{Known, Open}
 use Rattle.logs.specs.Offers.{Log, kept, PossibleAfter}

@@ -1,4 +1,6 @@
 // Multiplies matrices: reads requests from the file that the argument names, or from standard input, and prints the reply to each.
+#![tactic(auto)]
+
 use anyhow::anyhow;
 use replies::answering::answer;
 use replies::rendering::render;

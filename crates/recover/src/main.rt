@@ -1,5 +1,7 @@
 // Solves the blocks of a pass: reads commands from the file that the argument names, or from standard input, and prints the answer
 // to each. With two files it solves both passes and compares what they publish.
+#![tactic(auto)]
+
 mod blocks;
 mod comparing;
 mod input;

@@ -1,22 +1,22 @@
 -- What the columns of the slots answer after the log that a table holds.
-use Rattle.std.proofs.Common.{◌≡◌, ℕ, ◌+◌, ◌-◌, ◌*◌, ◌<◌, ◌≤◌, eqb, ltb, ◌≢◌, List, length, get_or, Some, None, Ok, sym, refl, ap, ◌∙◌, subst, ap₂, arith}
+use Rattle.std.proofs.Common.{◌≡◌, ℕ, ◌+◌, ◌-◌, ◌<◌, eqb, ltb, ◌≢◌, List, length, get_or, Some, None, Ok, sym, ap, ◌∙◌, subst, arith}
 use native.Mathlib.Decide.{ℕ_discrete}
 use Rattle.std.proofs.lemmas.List.FromFn.{fill_by_all}
 use Rattle.std.proofs.lemmas.Bool.{cond-true, eq-eqb, lt-ltb}
 use Rattle.algebra.specs.Meaning.{Meaning}
-use Rattle.algebra.specs.Vectors.{Equation, entries}
+use Rattle.algebra.specs.Vectors.{entries}
 use Rattle.linear.specs.Field.{FieldOn, FieldLaws}
-use Rattle.linear.specs.Table.{unit, unit_same, unit_other, kern}
-use Rattle.linear.proofs.Identities.{zero-+, +-neg, neg_zero, neg_neg}
+use Rattle.linear.specs.Table.{unit, unit_other, kern}
+use Rattle.linear.proofs.Identities.{zero-+, neg_zero, neg_neg}
 use Rattle.linear.proofs.Among.{among_same}
 use Rattle.linear.proofs.Codes.{Code, from_zero, field, code_ops}
 use Rattle.linear.proofs.Tables.{Tabled}
 use Rattle.logs.specs.declared.answer.Symbol.TheVariants.{Known, Open}
 use Rattle.logs.specs.Offers.{Log, kept}
-use Rattle.logs.specs.Questions.{solution, kernel, unknown, wrote, said, solution_checked, kernel_checked, unknown_checked, Answers, Solution, Kernel}
+use Rattle.logs.specs.Questions.{solution, kernel, unknown, wrote, said, unknown_checked, Answers, Solution, Kernel}
 use Rattle.logs.specs.Reduced.{Reduction}
 use Rattle.logs.proofs.Histories.{made_tabled}
-use Rattle.logs.proofs.Reductions.{free_of, free_column, solution_of, kern_of, kernel_of, free_many, free_column_lem, kern_here, is_solution_lem, is_kernel_lem}
+use Rattle.logs.proofs.Reductions.{free_of, free_column, kern_of, free_many, free_column_lem, kern_here, is_solution_lem, is_kernel_lem}
 use Rattle.logs.proofs.Replying.{shows_tells}
 use Rattle.recovery.specs.declared.table.Table.{Table}
 use Rattle.recovery.specs.Cells.{cell}

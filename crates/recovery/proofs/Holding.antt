@@ -1,12 +1,12 @@
 -- The log that a table holds after each call.
-use Rattle.std.proofs.Common.{◌≡◌, ℕ, zero, suc, ◌+◌, ◌-◌, ◌*◌, ◌<◌, ◌≤◌, ◌≢◌, List, [], ◌∷◌, ◌++◌, length, get_or, take, set, replicate, Some, None, Ok, Err, sym, refl, ap, ◌∙◌, subst, arith, get_or-take}
+use Rattle.std.proofs.Common.{◌≡◌, ℕ, zero, suc, ◌+◌, ◌-◌, ◌*◌, ◌<◌, ◌≢◌, List, [], ◌∷◌, ◌++◌, length, get_or, take, set, replicate, Some, None, Ok, Err, sym, refl, ap, ◌∙◌, subst, arith, get_or-take}
 use Rattle.algebra.specs.Meaning.{Meaning}
 use Rattle.algebra.specs.Outcome.{Told}
-use Rattle.algebra.specs.Vectors.{Equation, entries, Sound, Sounds}
+use Rattle.algebra.specs.Vectors.{entries, Sound}
 use Rattle.linear.specs.Field.{FieldLaws}
-use Rattle.linear.proofs.Codes.{code_zero, zero_code, from_zero}
+use Rattle.linear.proofs.Codes.{zero_code, from_zero}
 use Rattle.linear.proofs.Systems.{each_more, length_more}
-use Rattle.linear.proofs.Tables.{Tabled, tabled_none, tabled_more}
+use Rattle.linear.proofs.Tables.{tabled_none}
 use Rattle.logs.specs.declared.answer.Answer.TheVariants.{Kept, Implied, Contradiction}
 use Rattle.logs.specs.Logs.{Made, opened, offering, ranking}
 use Rattle.logs.specs.Offers.{Offer, equation, checked, Log, offered, ranked, kept}
@@ -16,7 +16,7 @@ use Rattle.recovery.specs.declared.table.Table.{Table}
 use Rattle.recovery.specs.Cells.{cell, taken_out, Extended, FirstNonzero, Divided}
 use Rattle.recovery.specs.Tables.{Holds, Keeps}
 use Rattle.recovery.proofs.Judging.{Row, closed_builds, implied_value, missed_value, implied_all, missed_all}
-use Rattle.recovery.proofs.Keeping.{opened as opened-at, kept_both, kept_room, kept_shows}
+use Rattle.recovery.proofs.Keeping.{kept_both, kept_room, kept_shows}
 use Rattle.recovery.proofs.Reading.{slots_show}
 use Rattle.recovery.proofs.Showing.{Shows, shown_slots}
 use Rattle.recovery.proofs.Steps.{zeros_at}

@@ -1,5 +1,5 @@
 -- What is left of an offer when the slots are taken out, and what follows where no coefficient is left.
-use Rattle.std.proofs.Common.{◌≡◌, ℕ, zero, suc, ◌+◌, ◌-◌, ◌*◌, ◌<◌, ◌≤◌, ◌≢◌, List, length, get_or, sym, refl, ap, ◌∙◌, subst, ap₂, arith}
+use Rattle.std.proofs.Common.{◌≡◌, ℕ, zero, suc, ◌+◌, ◌-◌, ◌*◌, ◌<◌, ◌≤◌, ◌≢◌, List, length, sym, ap, ◌∙◌, subst, ap₂, arith}
 use native.Mathlib.Decide.{ℕ_discrete, dec_lt}
 use Rattle.algebra.specs.Meaning.{Meaning}
 use Rattle.algebra.specs.Operations.{sum}
@@ -7,8 +7,7 @@ use Rattle.algebra.specs.Vectors.{Equation, entries, Sound, Sounds, Satisfies, P
 use Rattle.algebra.specs.Combinations.{Builds, value_sum}
 use Rattle.algebra.proofs.Sums.{sum_cong}
 use Rattle.linear.specs.Field.{FieldOn, FieldLaws}
-use Rattle.linear.specs.Table.{res, resv}
-use Rattle.linear.proofs.Identities.{+_assoc, +-zero, zero-+, +-neg, +_comm, neg-+, neg_sum, neg-*, neg_zero, neg_neg, zero-*, *-zero, cancel, from_less}
+use Rattle.linear.proofs.Identities.{+_assoc, +-zero, zero-+, +-neg, neg_sum, neg-*, neg_zero, neg_neg, zero-*, *-zero, from_less}
 use Rattle.linear.proofs.Sums.{sum_zero}
 use Rattle.linear.proofs.Weights.{combined}
 use Rattle.linear.proofs.Codes.{Code, code, code_same, codes_at, code_sum, code_product, code_negative, to_zero, from_zero, zero_code, vec, field, code_ops}

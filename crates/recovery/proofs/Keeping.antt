@@ -1,8 +1,7 @@
 -- The slots after an offer is kept are those of the table with its equation.
-use Rattle.std.proofs.Common.{◌≡◌, ℕ, ◌+◌, ◌*◌, ◌<◌, ◌≢◌, List, [], ◌∷◌, ◌++◌, length, set, sym, refl, ap, ◌∙◌, subst, ap₂, arith, length-set, get_or-set_other, get_or-set_same}
+use Rattle.std.proofs.Common.{◌≡◌, ℕ, ◌+◌, ◌*◌, ◌<◌, ◌≢◌, List, [], ◌∷◌, ◌++◌, length, set, sym, ap, ◌∙◌, subst, ap₂, arith, length-set, get_or-set_other, get_or-set_same}
 use native.Mathlib.Decide.{ℕ_discrete}
 use Rattle.algebra.specs.Meaning.{Meaning}
-use Rattle.algebra.specs.Operations.{sum}
 use Rattle.algebra.specs.Vectors.{Equation, entries, Sound, Sounds, Satisfies, Possible}
 use Rattle.linear.specs.Field.{FieldOn, FieldLaws}
 use Rattle.linear.specs.Table.{unit, unit_same, unit_other, Free, kern}
@@ -10,7 +9,7 @@ use Rattle.linear.proofs.Identities.{units, zero-+, *-zero, *-assoc, *-comm, one
 use Rattle.linear.proofs.Sums.{sum_zero}
 use Rattle.linear.proofs.FirstNonzero.{First}
 use Rattle.linear.proofs.Pivoting.{q_free}
-use Rattle.linear.proofs.Codes.{Code, code, code_same, code_one, code_product, to_zero, from_zero, one_code, vec, field, code_ops}
+use Rattle.linear.proofs.Codes.{Code, code, code_one, code_product, to_zero, from_zero, one_code, vec, field, code_ops}
 use Rattle.linear.proofs.Systems.{length_more}
 use Rattle.linear.proofs.Tables.{Tabled, tabled_few, tabled_more, rest, rest_value, rest_weight, open_both}
 use Rattle.recovery.specs.Cells.{cell, taken_out, Divided, Placed}

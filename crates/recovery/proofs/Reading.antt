@@ -1,16 +1,16 @@
 -- Slots that hold the reduced form of the equations that a log kept show the table of these equations.
-use Rattle.std.proofs.Common.{◌≡◌, ℕ, ◌+◌, ◌*◌, ◌<◌, ◌≤◌, true, false, not, eqb, ◌⊎◌, List, length, get_or, sym, refl, ap, ◌∙◌, subst, inl, inr, arith}
+use Rattle.std.proofs.Common.{◌≡◌, ℕ, ◌+◌, ◌<◌, true, false, not, eqb, ◌⊎◌, List, length, get_or, sym, ap, ◌∙◌, subst, inl, inr, arith}
 use native.Mathlib.Decide.{ℕ_discrete}
 use Rattle.std.proofs.lemmas.List.FromFn.{length-map-range_with_len}
 use Rattle.std.proofs.lemmas.List.{get_or-map}
-use Rattle.std.proofs.lemmas.Bool.{cases_Bool, true≢false, not-true, not-false, not_from_true, not_from_false, eqb-true, eqb-false, eq-eqb, ne_eqb}
-use Rattle.algebra.specs.Among.{among, member}
+use Rattle.std.proofs.lemmas.Bool.{cases_Bool, not-true, not_from_false, eqb-false, ne_eqb}
+use Rattle.algebra.specs.Among.{member}
 use Rattle.algebra.specs.Meaning.{Meaning}
 use Rattle.algebra.specs.Vectors.{Equation, nothing, row, entries}
 use Rattle.linear.specs.Field.{FieldLaws}
 use Rattle.linear.specs.Table.{Free}
-use Rattle.linear.proofs.Among.{among_each, among_all, member_find, member_at}
-use Rattle.linear.proofs.Codes.{Code, code, code_at, from_zero, vec, field}
+use Rattle.linear.proofs.Among.{among_each, among_all, member_find}
+use Rattle.linear.proofs.Codes.{code, code_at, from_zero, field}
 use Rattle.linear.proofs.Systems.{tabulated, listed, listed_builds}
 use Rattle.linear.proofs.Tables.{Tabled, tabled_few}
 use Rattle.logs.specs.Offers.{Log, kept}

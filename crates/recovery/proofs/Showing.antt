@@ -1,5 +1,5 @@
 -- Slots whose codes are those of a reduced table hold the reduced form of its equations.
-use Rattle.std.proofs.Common.{◌≡◌, ℕ, ◌+◌, ◌-◌, ◌*◌, ◌<◌, ◌≤◌, not, eqb, List, map, length, get_or, sym, ap, ◌∙◌, subst, ap₂, arith, ext_get_or}
+use Rattle.std.proofs.Common.{◌≡◌, ℕ, ◌+◌, ◌-◌, ◌*◌, ◌<◌, ◌≤◌, not, eqb, List, map, length, get_or, sym, ap, ◌∙◌, subst, arith, ext_get_or}
 use native.Mathlib.Decide.{ℕ_discrete, dec_lt}
 use lib.ListN.{length-map}
 use Rattle.std.proofs.lemmas.List.{get_or-map}
@@ -11,8 +11,8 @@ use Rattle.algebra.specs.Combinations.{Builds, value_sum}
 use Rattle.linear.specs.Field.{FieldLaws}
 use Rattle.linear.specs.Table.{Free}
 use Rattle.linear.proofs.Among.{among_same, among_each}
-use Rattle.linear.proofs.Codes.{Code, code, code_is, code_same, codes_at, to_zero, from_zero, field, vec}
-use Rattle.linear.proofs.Systems.{listed, listed_vector, listed_at, listed_builds, listed-value}
+use Rattle.linear.proofs.Codes.{Code, code, code_is, code_same, to_zero, from_zero, field}
+use Rattle.linear.proofs.Systems.{listed, listed_builds, listed-value}
 use Rattle.linear.proofs.Tables.{Tabled, tabled_few}
 use Rattle.logs.specs.Reduced.{ReducedForm}
 use Rattle.logs.proofs.Forming.{leads, pivots_of, row_at, rows_of, empty_at, tabled_form}

@@ -1,5 +1,5 @@
 -- What the steps of elimination write, cell by cell.
-use Rattle.std.specs.Prelude.{◌≡◌, ℕ, zero, suc, ◌<◌, ◌≤◌, cond, ◌≢◌, List, [], length, Some, None, Option, ◌==◌, slice_index_or}
+use Rattle.std.specs.Prelude.{◌≡◌, ℕ, zero, suc, ◌<◌, cond, ◌≢◌, List, [], length, Some, None, Option, ◌==◌, slice_index_or}
 use Rattle.algebra.specs.Meaning.{Meaning}
 use Rattle.algebra.specs.Vectors.{entries}
 

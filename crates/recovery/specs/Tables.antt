@@ -1,5 +1,5 @@
 -- The table of a collection, and the log that it holds.
-use Rattle.std.specs.Prelude.{◌≡◌, ℕ, ◌+◌, List, length, set, Ok, Err, Result, slice_set}
+use Rattle.std.specs.Prelude.{◌≡◌, ℕ, ◌+◌, List, length, Ok, Err, Result, slice_set}
 use Rattle.algebra.specs.Meaning.{Meaning}
 use Rattle.algebra.specs.Outcome.{Told}
 use Rattle.logs.specs.Logs.{Made}

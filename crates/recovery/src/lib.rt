@@ -1,4 +1,6 @@
 // Collections of linear equations over every field: what they accept, and what is known once they are published.
+#![tactic(auto)]
+
 pub mod collection;
 mod columns;
 mod elimination;

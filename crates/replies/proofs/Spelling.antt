@@ -1,5 +1,5 @@
 -- How the text of numbers is put together.
-use Rattle.std.proofs.Common.{◌≡◌, ℕ, suc, ◌+◌, ◌-◌, ◌<◌, ◌≤◌, min, List, [], ◌∷◌, ◌++◌, map, length, take, drop, IfOk, string_bytes, decimal, Result, String, sym, refl, ap, ◌∙◌, subst, ap₂, append_assoc, append-nil, arith, take_all}
+use Rattle.std.proofs.Common.{◌≡◌, ℕ, suc, ◌+◌, ◌-◌, ◌<◌, min, List, [], ◌∷◌, ◌++◌, map, length, take, drop, IfOk, string_bytes, decimal, Result, String, sym, ap, ◌∙◌, subst, ap₂, append_assoc, append-nil, arith, take_all}
 use native.Mathlib.Decide.{dec_lt}
 use Rattle.std.specs.declared.alloc.AllocError.{AllocError}
 use Rattle.std.specs.declared.alloc.Global.{Global}

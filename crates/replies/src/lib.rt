@@ -1,4 +1,6 @@
 // Answering the requests of a text.
+#![tactic(auto)]
+
 pub mod answering;
 mod multiply;
 pub mod rendering;

@@ -1,5 +1,5 @@
 -- The requests that a canonical text was written from are read back, and a text is read in one way only.
-use Rattle.std.proofs.Common.{◌≡◌, ℕ, zero, suc, ◌+◌, ◌*◌, ◌^◌, ◌<◌, ◌≤◌, true, false, eqb, List, [], ◌∷◌, ◌++◌, map, length, take, drop, Some, None, Ok, codes, decimal, Option, sym, refl, ap, ◌∙◌, subst, ⊎_elim, suc-mul, mul-zero, arith, rules}
+use Rattle.std.proofs.Common.{◌≡◌, ℕ, zero, suc, ◌*◌, ◌^◌, ◌<◌, ◌≤◌, true, false, eqb, List, [], ◌∷◌, ◌++◌, map, length, take, drop, Some, None, Ok, codes, decimal, Option, sym, refl, ap, ◌∙◌, subst, ⊎_elim, suc-mul, mul-zero, arith, rules}
 use Rattle.std.proofs.lemmas.Fmt.{decimal_nonempty, digits_decimal, digits_value-decimal}
 use Rattle.std.proofs.ByRecursion.{All-append, All-take, All-drop}
 use Rattle.std.proofs.lemmas.List.{append_assoc, nil_from_length, take-append-drop, length-take-le, length-drop, length-map}

@@ -1,4 +1,6 @@
 // The text of requests to multiply matrices, read into values.
+#![tactic(auto)]
+
 mod cursor;
 pub mod fault;
 mod lines;

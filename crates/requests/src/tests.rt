@@ -1,6 +1,7 @@
 // Texts with what is read from them.
 use crate::reading::parse;
 use crate::request::{Request, RingName, Table};
+use std::alloc::Global;
 use std::process::Abort;
 use std::test::*;
 
@@ -19,19 +20,20 @@ fn check_table(
 }
 
 // How many requests are read, and the message of the fault after them, empty where there is none.
-fn check_text(rt: HostRuntime, text: &[u8], requests: usize, message: &str) -> Result<(), Fail> {
-    let parsed = parse(rt.alloc(), text)?;
-    assert_eq!(parsed.requests.len(), requests);
+fn check_text(
+    rt: &impl Abort,
+    heap: Global,
+    text: &[u8],
+    requests: usize,
+    message: &str,
+) -> Result<(), Fail> {
+    let parsed = parse(heap, text)?;
+    assert_eq!(rt; parsed.requests.len(), requests);
     match parsed.fault {
-        None => {
-            assert_eq!("", message);
-            Ok(())
-        },
-        Some(fault) => {
-            assert_eq!(fault.to_string(rt.alloc())?.as_str(), message);
-            Ok(())
-        },
+        None => assert_eq!(rt; "", message),
+        Some(fault) => assert_eq!(rt; fault.to_string(heap)?.as_str(), message),
     }
+    Ok(())
 }
 
 #[test]
@@ -48,7 +50,8 @@ fn reads_a_request(rt: HostRuntime) -> Result<(), Fail> {
 #[test]
 fn passes_over_comments(rt: HostRuntime) -> Result<(), Fail> {
     check_text(
-        rt,
+        &rt,
+        rt.alloc(),
         b"# a product\r\nproduct words\r\n1 1\r\n # the cell\r\n\r\n\t05 \r\n0 0",
         1,
         "",
@@ -58,13 +61,15 @@ fn passes_over_comments(rt: HostRuntime) -> Result<(), Fail> {
 #[test]
 fn finds_faults(rt: HostRuntime) -> Result<(), Fail> {
     check_text(
-        rt,
+        &rt,
+        rt.alloc(),
         b"\nsum words\n",
         0,
         "line 2: expected the command `product RING`",
     )?;
     check_text(
-        rt,
+        &rt,
+        rt.alloc(),
         b"product reals\n",
         0,
         "line 1: expected one ring after `product`: words, residues, octets or octets-by-shifts",
@@ -74,19 +79,22 @@ fn finds_faults(rt: HostRuntime) -> Result<(), Fail> {
 #[test]
 fn finds_faults_of_matrices(rt: HostRuntime) -> Result<(), Fail> {
     check_text(
-        rt,
+        &rt,
+        rt.alloc(),
         b"product words\n1 1 1\n",
         0,
         "line 2: expected the rows and the columns of a matrix, two whole numbers below 2^32",
     )?;
     check_text(
-        rt,
+        &rt,
+        rt.alloc(),
         b"product words\n1 1\n4294967296\n",
         0,
         "line 3: expected a row of one whole number below 2^32",
     )?;
     check_text(
-        rt,
+        &rt,
+        rt.alloc(),
         b"product words\n2 3\n1 2 3",
         0,
         "line 4: expected a row of 3 whole numbers below 2^32",
@@ -96,7 +104,8 @@ fn finds_faults_of_matrices(rt: HostRuntime) -> Result<(), Fail> {
 #[test]
 fn keeps_what_came_before(rt: HostRuntime) -> Result<(), Fail> {
     check_text(
-        rt,
+        &rt,
+        rt.alloc(),
         b"product words\n0 0\n0 0\nproduct residues\n0 1\n1 0\nproduct",
         2,
         "line 7: expected one ring after `product`: words, residues, octets or octets-by-shifts",

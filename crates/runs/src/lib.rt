@@ -1,4 +1,6 @@
 // Worked runs of collections: that the definitions give them, and that the code answers them.
+#![tactic(auto)]
+
 mod answering;
 mod run;
 mod table;

@@ -1,4 +1,6 @@
 // The lines and the words of a text, and the whole numbers that words write.
+#![tactic(auto)]
+
 pub mod cursor;
 pub mod lines;
 pub mod number;

@@ -1,4 +1,6 @@
 // Runs the libraries on worked values, on the edges of the refusals and on the tables of RFC 6330.
+#![tactic(auto)]
+
 mod edges;
 mod octets;
 

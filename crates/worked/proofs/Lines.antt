@@ -1,5 +1,5 @@
 -- The lines of the table, by computation.
-use Rattle.std.proofs.Common.{◌≡◌, ℕ, Bool, true, ◌&&◌, eqb, Some, Decides, Option, sym, refl, ap, ◌∙◌, subst, lit<}
+use Rattle.std.proofs.Common.{◌≡◌, ℕ, true, eqb, Option, sym, refl, ap, ◌∙◌, subst, lit<}
 use Rattle.std.proofs.lemmas.Bool.Decides.{Decides-eqb}
 use Rattle.algebra.specs.Meaning.{Meaning, RingLaws}
 use Rattle.algebra.specs.Inverse.{Inverts}

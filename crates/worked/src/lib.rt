@@ -1,4 +1,6 @@
 // Worked values: that the definitions give them, and that the code answers them.
+#![tactic(auto)]
+
 ghost use Rattle.std.specs.Prelude.{◌≡◌, true, Decides};
 ghost use Rattle.rings.specs.Modulo.{residues};
 ghost use Rattle.rings.specs.Octets.{octets};

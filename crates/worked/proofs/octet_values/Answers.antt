@@ -1,4 +1,4 @@
-use Rattle.std.proofs.Common.{◌&&◌, Some, ◌∙◌, ap₂}
+use Rattle.std.proofs.Common.{◌&&◌, Some, ap₂}
 use Rattle.worked.proofs.Lines.{all_hold, product_answered, inverse_answered}
 use Rattle.worked.proofs.octet_values.Goals as goal
 

@@ -1,4 +1,4 @@
-use Rattle.std.proofs.Common.{[], ◌∷◌, ◌++◌, string_bytes, ap, ◌∙◌, ap₂, append_assoc, lit<}
+use Rattle.std.proofs.Common.{[], ◌∷◌, ◌++◌, ap, ◌∙◌, ap₂, append_assoc, lit<}
 use Rattle.std.specs.List.{flat_map}
 use Rattle.text.specs.Writing.{after_blank}
 use Rattle.answers.proofs.calls.numbers_line.Goals as goal

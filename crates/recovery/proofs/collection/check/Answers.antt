@@ -1,6 +1,5 @@
-use Rattle.std.proofs.Common.{◌≡◌, true, false, ltb, length, Some, None, sym, ap, ◌∙◌, arith}
+use Rattle.std.proofs.Common.{◌≡◌, true, false, ltb, Some, None, sym, ap, ◌∙◌, arith}
 use Rattle.std.proofs.lemmas.Bool.{cond-true, cond-false, lt-ltb, le-ltb}
-use Rattle.algebra.specs.Outside.{first_outside}
 use Rattle.logs.specs.Offers.{offer}
 use Rattle.logs.proofs.Checking.{checked_codes, outside_value, outside_front}
 use Rattle.recovery.proofs.collection.check.Goals as goal

@@ -1,5 +1,5 @@
 use Rattle.std.proofs.Common.{◌≡◌, ◌<◌, length, get_or, sym, ap, ◌∙◌, subst, arith}
-use Rattle.recovery.specs.Columns.{free_in, Leaves}
+use Rattle.recovery.specs.Columns.{free_in}
 use Rattle.recovery.specs.Cells.{cell}
 use Rattle.recovery.proofs.FreeSteps.{count_yes, count_no, free_here, leaves_up, leaves_no, leaves_yes}
 use Rattle.recovery.proofs.columns.first_moving.Goals as goal

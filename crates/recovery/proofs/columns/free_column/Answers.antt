@@ -1,4 +1,4 @@
-use Rattle.std.proofs.Common.{◌≡◌, ◌+◌, ◌<◌, length, get_or, sym, refl, ap, ◌∙◌, arith}
+use Rattle.std.proofs.Common.{◌≡◌, length, get_or, sym, ap, ◌∙◌, arith}
 use Rattle.recovery.specs.Columns.{free_in}
 use Rattle.recovery.proofs.FreeSteps.{count_yes, count_no, free_here}
 use Rattle.recovery.proofs.columns.free_column.Goals as goal

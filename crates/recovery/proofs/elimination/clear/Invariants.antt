@@ -1,4 +1,4 @@
-use Rattle.std.proofs.Common.{◌≡◌, ℕ, ◌<◌, ◌≤◌, [], length, get_or}
+use Rattle.std.proofs.Common.{◌≡◌, ℕ, ◌≤◌, [], length, get_or}
 use Rattle.recovery.specs.Cells.{Cleared}
 use Rattle.recovery.proofs.elimination.clear.Given as goal
 

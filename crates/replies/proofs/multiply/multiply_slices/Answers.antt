@@ -1,4 +1,4 @@
-use Rattle.std.proofs.Common.{◌≡◌, ap, ◌∙◌, ap₂, rules}
+use Rattle.std.proofs.Common.{ap, ◌∙◌, ap₂, rules}
 use Rattle.algebra.specs.Matrix.{Matrix}
 use Rattle.algebra.specs.Outcome.{unless_refused}
 use Rattle.windows.specs.Product.{product_answer, product_cells}

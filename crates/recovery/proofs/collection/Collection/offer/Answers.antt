@@ -1,6 +1,6 @@
-use Rattle.std.proofs.Common.{◌≡◌, ℕ, ◌∷◌, Ok, Err, sym, refl, ap, ◌∙◌, subst}
+use Rattle.std.proofs.Common.{ℕ, ◌∷◌, Ok, sym, refl, ap, subst}
 use Rattle.std.proofs.lemmas.Result.{err_from_is_err_and}
-use Rattle.logs.specs.Offers.{offer, Log, offered}
+use Rattle.logs.specs.Offers.{offer, offered}
 use Rattle.logs.specs.Refusals.{told}
 use Rattle.logs.proofs.Checking.{err_ok}
 use Rattle.recovery.specs.Tables.{Holds}

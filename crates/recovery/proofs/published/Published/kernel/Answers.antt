@@ -1,4 +1,4 @@
-use Rattle.std.proofs.Common.{◌-◌, eqb, ltb, length, sym, refl, ◌∙◌, subst}
+use Rattle.std.proofs.Common.{◌-◌, eqb, ltb, length, sym, ◌∙◌, subst}
 use Rattle.std.proofs.lemmas.Bool.{cond-true, eq-eqb, lt-ltb}
 use Rattle.linear.specs.Field.{FieldLaws}
 use Rattle.logs.proofs.Checking.{err_ok}

@@ -1,4 +1,4 @@
-use Rattle.std.proofs.Common.{eqb, length, sym, refl}
+use Rattle.std.proofs.Common.{eqb, length, sym}
 use Rattle.std.proofs.lemmas.Bool.{cond-true, eq-eqb}
 use Rattle.linear.specs.Field.{FieldLaws}
 use Rattle.logs.proofs.Checking.{err_ok}
