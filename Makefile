@@ -3,12 +3,10 @@
 .PHONY: run compare test
 
 run:
-	rt check recover
-	target/bin/recover crates/recover/data/pass.txt
+	cd crates/recover && rt run -- data/pass.txt
 
 compare:
-	rt check recover
-	target/bin/recover crates/recover/data/primary.txt crates/recover/data/backup.txt
+	cd crates/recover && rt run -- data/primary.txt data/backup.txt
 
 test:
 	bash .ci/run

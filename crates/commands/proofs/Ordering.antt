@@ -2,7 +2,7 @@
 use Rattle.std.proofs.Common.{◌≡◌, ℕ, true, false, List, [], ◌∷◌, Some, None, Ok, Err, codes, Option, Result, sym, refl, ap, ◌∙◌, subst, ⊎_elim, arith}
 use Rattle.std.proofs.lemmas.Bool.{cases_Bool}
 use Rattle.std.specs.Option.{option_map, ok_or}
-use Rattle.std.specs.List.{AllByRecursion as All}
+use Rattle.std.specs.List.{AllByRecursion}
 use Rattle.std.specs.Str.{bytes_eq}
 use Rattle.text.specs.Lines.{Lines, end, line, meaningful}
 use Rattle.text.specs.Numbers.{number}
@@ -33,7 +33,7 @@ given g (Some a) e x h = (a, refl, cc)
 
 -- the numbers of an equation are small
 abbrev FitsEquation : List ℕ × ℕ → Type 0
-FitsEquation e = All Small e.0 × Small e.1
+FitsEquation e = AllByRecursion Small e.0 × Small e.1
 
 first_fits : (w : List ℕ) (m : Option ℕ) (o : Option (List ℕ × ℕ)) (e : List ℕ × ℕ) → number w ≡ m → ((d : List ℕ × ℕ) → o ≡ Some d → FitsEquation d) → with_first m o ≡ Some e → FitsEquation e
 first_fits w None o e h fit g = absurd (let z : ◌≡◌ {A = ℕ} 0 1 = cc in omega arith)
@@ -117,7 +117,7 @@ opens s t (symbol j ∷ cs) no-offers no-questions h = absurd (let z : ◌≡◌
 opens s t (report ∷ cs) no-offers no-questions h = absurd (let z : ◌≡◌ {A = ℕ} 0 1 = cc h.0 in omega arith)
 
 abbrev LawfulFrom : State → List Step → Type 0
-LawfulFrom s cs = InOrder s cs × All Fits cs
+LawfulFrom s cs = InOrder s cs × AllByRecursion Fits cs
 
 goes_on_lawful : (s : State) (f : FieldName) (n : ℕ) (rest : State → FieldName → Reading) (o : Result Saying Expected) → ((t : State) (g : FieldName) → LawfulFrom t (rest t g).steps) → ((c : Step) → o ≡ Ok (does c) → Stands s c) → LawfulFrom s (goes_on f n rest o).steps
 goes_on_lawful s f n rest (Ok (names g)) more here = let h = more Named g in (opens Named s (rest Named g).steps refl refl h.0, h.1)

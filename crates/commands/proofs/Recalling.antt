@@ -4,7 +4,7 @@ use Rattle.std.proofs.ByRecursion.{All-append}
 use Rattle.std.proofs.lemmas.Slice.Eq.{bytes_eq-Decides}
 use Rattle.std.proofs.lemmas.Bool.{cases_Bool}
 use Rattle.std.specs.Option.{option_map, ok_or}
-use Rattle.std.specs.List.{AllByRecursion as All}
+use Rattle.std.specs.List.{AllByRecursion}
 use Rattle.std.specs.Str.{bytes_eq}
 use Rattle.text.specs.Numbers.{number}
 use Rattle.text.specs.Text.{blank}
@@ -47,7 +47,7 @@ no_bar n h =
     (λ (t : bytes_eq (decimal n) (codes "|") ≡ false). t)
     (cases_Bool (bytes_eq (decimal n) (codes "|")))
 
-equation_back : (xs : List ℕ) (v : ℕ) → All Small xs → Small v → equation (map decimal xs ++ (codes "|" ∷ decimal v ∷ [])) ≡ Some (xs, v)
+equation_back : (xs : List ℕ) (v : ℕ) → AllByRecursion Small xs → Small v → equation (map decimal xs ++ (codes "|" ∷ decimal v ∷ [])) ≡ Some (xs, v)
 equation_back [] v h small = ap (option_map (λ n. ([], n))) (number_back v small)
 equation_back (x ∷ xs) v h small = rw (no_bar x h.0, number_back x h.0, equation_back xs v h.1 small) refl
 
@@ -71,7 +71,7 @@ field_back Residues = refl
 field_back Octets = refl
 field_back OctetsByShifts = refl
 
-steps_back : (s : State) (f : FieldName) (n : ℕ) (cs : List Step) → InOrder s cs → All Fits cs → read_from s f (numbered n (map step_words cs)) ≡ record { field = f; steps = cs; fault = None }
+steps_back : (s : State) (f : FieldName) (n : ℕ) (cs : List Step) → InOrder s cs → AllByRecursion Fits cs → read_from s f (numbered n (map step_words cs)) ≡ record { field = f; steps = cs; fault = None }
 steps_back s f n [] order fit = refl
 steps_back s f n (c ∷ cs) order fit =
     ap (goes_on f n (λ t g. read_from t g (numbered (suc n) (map step_words cs)))) (step_back s c order.0 fit.0)
@@ -100,7 +100,7 @@ bar_plain : PlainWord (codes "|")
 unfolding plain blank
 bar_plain = (omega arith, refl)
 
-arguments_plain : (c : Step) → Fits c → All PlainWord (argument_words c)
+arguments_plain : (c : Step) → Fits c → AllByRecursion PlainWord (argument_words c)
 arguments_plain (unknowns n) h = (plain_decimal n h, tt)
 arguments_plain (offer xs v) h = All-append _ (map decimal xs) (codes "|" ∷ decimal v ∷ []) (plain_decimals xs h.0) (bar_plain, (plain_decimal v h.1, tt))
 arguments_plain rank h = tt
@@ -110,7 +110,7 @@ arguments_plain (kernel k) h = (plain_decimal k h, tt)
 arguments_plain (symbol j) h = (plain_decimal j h, tt)
 arguments_plain report h = tt
 
-steps_plain : (cs : List Step) → All Fits cs → All PlainLine (map step_words cs)
+steps_plain : (cs : List Step) → AllByRecursion Fits cs → AllByRecursion PlainLine (map step_words cs)
 steps_plain [] h = tt
 steps_plain (c ∷ cs) h = ((omega arith, (keyword_plain (keyword_of c), arguments_plain c h.0)), steps_plain cs h.1)
 

@@ -1,6 +1,6 @@
 -- The steps that a text can name: in order, and with numbers below 2^32.
 use Rattle.std.specs.Prelude.{◌≡◌, ℕ, ◌^◌, ◌<◌, true, List, [], ◌∷◌}
-use Rattle.std.specs.List.{AllByRecursion as All}
+use Rattle.std.specs.List.{AllByRecursion}
 use Rattle.commands.specs.declared.state.State.{State}
 use Rattle.commands.specs.declared.state.State.TheVariants.{Start}
 use Rattle.commands.specs.Keywords.{keyword_of}
@@ -17,7 +17,7 @@ Small n = n < 2 ^ 32
 
 abbrev pub Fits : Step → Type 0
 Fits (unknowns n) = Small n
-Fits (offer cs v) = All Small cs × Small v
+Fits (offer cs v) = AllByRecursion Small cs × Small v
 Fits rank = Unit {0}
 Fits publish = Unit {0}
 Fits solution = Unit {0}
@@ -26,4 +26,4 @@ Fits (symbol j) = Small j
 Fits report = Unit {0}
 
 abbrev pub Lawful : List Step → Type 0
-Lawful cs = InOrder Start cs × All Fits cs
+Lawful cs = InOrder Start cs × AllByRecursion Fits cs

@@ -6,7 +6,7 @@ use Rattle.std.proofs.lemmas.List.{append_assoc, nil_from_length, take-append-dr
 use Rattle.std.proofs.lemmas.Str.Parse.{IsNumeralModel, numerals_by_fold}
 use Rattle.std.proofs.lemmas.Bool.{cases_Bool, eqb-true, eqb-false}
 use Rattle.std.specs.Option.{ok_or}
-use Rattle.std.specs.List.{flat_map, AllByRecursion as All}
+use Rattle.std.specs.List.{flat_map, AllByRecursion}
 use Rattle.std.specs.Str.{all_ascii_digits}
 use Rattle.requests.specs.declared.fault.Expected.TheVariants.{Sides, Row}
 use Rattle.requests.specs.declared.fault.Fault.{Fault}
@@ -40,17 +40,17 @@ number_back n h =
     let same = digits_value-decimal own n (omega arith) in
     is_number (decimal n) (decimal_nonempty n (omega arith)) (digits_here n h) (omega arith) ∙ ap (λ m. Some m) same
 
-exactly_back : (k : ℕ) (xs : List ℕ) → length xs ≡ k → All Small xs → exactly k (map decimal xs) ≡ Some xs
+exactly_back : (k : ℕ) (xs : List ℕ) → length xs ≡ k → AllByRecursion Small xs → exactly k (map decimal xs) ≡ Some xs
 exactly_back zero [] e h = refl
 exactly_back zero (x ∷ xs) e h = absurd (omega arith)
 exactly_back (suc k) [] e h = absurd (omega arith)
 exactly_back (suc k) (x ∷ xs) e h = rw (number_back x h.0, exactly_back k xs (omega arith) h.1) refl
 
-row_back : (n k : ℕ) (xs : List ℕ) (rest : Lines) → length xs ≡ k → All Small xs → read_row k (line n (map decimal xs) rest) ≡ read xs rest
+row_back : (n k : ℕ) (xs : List ℕ) (rest : Lines) → length xs ≡ k → AllByRecursion Small xs → read_row k (line n (map decimal xs) rest) ≡ read xs rest
 row_back n k xs rest e h = ap (λ o. judged n rest (ok_or o (Row k))) (exactly_back k xs e h)
 
 -- rows, a matrix and a request, before any other lines
-rows_back : (n k columns : ℕ) (cells : List ℕ) (page : List (List (List ℕ))) → length cells ≡ k * columns → All Small cells → (m : ℕ) × (read_rows k columns (numbered n (row_words k columns cells ++ page)) ≡ read cells (numbered m page))
+rows_back : (n k columns : ℕ) (cells : List ℕ) (page : List (List (List ℕ))) → length cells ≡ k * columns → AllByRecursion Small cells → (m : ℕ) × (read_rows k columns (numbered n (row_words k columns cells ++ page)) ≡ read cells (numbered m page))
 unfolding read_rows
 rows_back n zero columns cells page e h = (n, ap (λ l. read l (numbered n page)) (sym (nil_from_length cells (omega arith))))
 rows_back n (suc k) columns cells page e h =
@@ -93,18 +93,18 @@ request_back n (product ring left right) page h =
     let apart : numbered (suc n) ((matrix_words left ++ matrix_words right) ++ page) ≡ numbered (suc n) (matrix_words left ++ (matrix_words right ++ page)) = ap (numbered (suc n)) (append_assoc (matrix_words left) (matrix_words right) page) in
     (second.0, request_read n _ _ ring (commanded ring) left right _ _ (ap read_matrix apart ∙ first.1) second.1)
 
-requests_back : (n : ℕ) (qs : List Asked) → All ProperRequest qs → ReadsAs (numbered n (flat_map request_words qs)) qs None
+requests_back : (n : ℕ) (qs : List Asked) → AllByRecursion ProperRequest qs → ReadsAs (numbered n (flat_map request_words qs)) qs None
 requests_back n [] h = refl
 requests_back n (q ∷ qs) h =
     let here = request_back n q (flat_map request_words qs) h.0 in
     (numbered here.0 (flat_map request_words qs), here.1, requests_back here.0 qs h.1)
 
 -- every line of a canonical text is plain
-map_plain : (xs : List ℕ) → All Small xs → All PlainWord (map decimal xs)
+map_plain : (xs : List ℕ) → AllByRecursion Small xs → AllByRecursion PlainWord (map decimal xs)
 map_plain [] h = tt
 map_plain (x ∷ xs) h = (plain_decimal x h.0, map_plain xs h.1)
 
-rows_plain : (k columns : ℕ) (cells : List ℕ) → 0 < columns → length cells ≡ k * columns → All Small cells → All PlainLine (row_words k columns cells)
+rows_plain : (k columns : ℕ) (cells : List ℕ) → 0 < columns → length cells ≡ k * columns → AllByRecursion Small cells → AllByRecursion PlainLine (row_words k columns cells)
 rows_plain zero columns cells some e h = tt
 rows_plain (suc k) columns cells some e h =
     let room : columns ≤ length cells = omega (arith, suc-mul k columns) in
@@ -112,7 +112,7 @@ rows_plain (suc k) columns cells some e h =
     let left : length (drop columns cells) ≡ k * columns = length-drop columns cells ∙ omega (arith, suc-mul k columns) in
     ((omega arith, map_plain _ (All-take _ columns cells h)), rows_plain k columns (drop columns cells) some left (All-drop _ columns cells h))
 
-matrix_plain : (a : Matrix) → Proper a → All PlainLine (matrix_words a)
+matrix_plain : (a : Matrix) → Proper a → AllByRecursion PlainLine (matrix_words a)
 matrix_plain a h = (
   (omega arith, (plain_decimal a.rows h.rows_fit, (plain_decimal a.columns h.columns_fit, tt))),
   ⊎_elim
@@ -132,17 +132,17 @@ command_plain : PlainWord (codes "product")
 unfolding plain blank
 command_plain = (omega arith, refl)
 
-request_plain : (q : Asked) → ProperRequest q → All PlainLine (request_words q)
+request_plain : (q : Asked) → ProperRequest q → AllByRecursion PlainLine (request_words q)
 request_plain (product ring left right) h = (
   (omega arith, (command_plain, (named_plain ring, tt))),
   All-append _ (matrix_words left) (matrix_words right) (matrix_plain left h.0) (matrix_plain right h.1),
 )
 
-requests_plain : (qs : List Asked) → All ProperRequest qs → All PlainLine (flat_map request_words qs)
+requests_plain : (qs : List Asked) → AllByRecursion ProperRequest qs → AllByRecursion PlainLine (flat_map request_words qs)
 requests_plain [] h = tt
 requests_plain (q ∷ qs) h = All-append _ (request_words q) (flat_map request_words qs) (request_plain q h.0) (requests_plain qs h.1)
 
-written_reads : (qs : List Asked) → All ProperRequest qs → Reads (written qs) qs None
+written_reads : (qs : List Asked) → AllByRecursion ProperRequest qs → Reads (written qs) qs None
 written_reads qs h = subst (λ ls. ReadsAs ls qs None) (sym (page_back 1 (flat_map request_words qs) (requests_plain qs h))) (requests_back 1 qs h)
 
 -- lines that stop here give no request, and stop with one fault only

@@ -4,7 +4,7 @@ use Rattle.std.proofs.lemmas.List.{append_assoc, append-nil}
 use Rattle.std.proofs.ByRecursion.{All-append}
 use Rattle.std.proofs.lemmas.Bool.{and_parts, or_parts, not-true, ne_eqb, leb-true, or_from, not_from_false, and_from}
 use Rattle.std.specs.Char.{is_ascii_digit}
-use Rattle.std.specs.List.{flat_map, AllByRecursion as All}
+use Rattle.std.specs.List.{flat_map, AllByRecursion}
 use Rattle.std.specs.Str.{all_ascii_digits}
 use Rattle.requests.specs.Text.{blank, joined_to, lines, worded, words}
 use Rattle.requests.specs.Format.{Lines, end, line, passed_over, meaningful}
@@ -24,7 +24,7 @@ abbrev pub PlainWord : List ℕ → Type 0
 PlainWord w = (0 < length w) × (all_plain w ≡ true)
 
 abbrev pub PlainLine : List (List ℕ) → Type 0
-PlainLine ws = (0 < length ws) × All PlainWord ws
+PlainLine ws = (0 < length ws) × AllByRecursion PlainWord ws
 
 plain_parts : (b : ℕ) → plain b ≡ true → (blank b ≡ false) × (eqb b 10 ≡ false) × (eqb b 35 ≡ false)
 unfolding plain
@@ -48,7 +48,7 @@ digits_plain (b ∷ bs) e =
     and_from _ _ (digit_plain b p.0) (digits_plain bs p.1)
 
 -- a line ends at the line feed after it
-line_back : (l rest : List ℕ) → All (λ b. eqb b 10 ≡ false) l → lines (l ++ (10 ∷ rest)) ≡ l ∷ lines rest
+line_back : (l rest : List ℕ) → AllByRecursion (λ b. eqb b 10 ≡ false) l → lines (l ++ (10 ∷ rest)) ≡ l ∷ lines rest
 line_back [] rest h = refl
 line_back (b ∷ l) rest h = rw h.0 (ap (joined_to b) (line_back l rest h.1))
 
@@ -69,7 +69,7 @@ unfolding blank
 blank_here = refl
 
 -- words with a blank between them are read back
-words_back : (ws : List (List ℕ)) → All PlainWord ws → words (spaced ws) ≡ ws
+words_back : (ws : List (List ℕ)) → AllByRecursion PlainWord ws → words (spaced ws) ≡ ws
 words_back [] h = refl
 words_back (w ∷ []) h = ap words (sym (append-nil w)) ∙ word_back w [] h.0.0 h.0.1 refl
 words_back (w ∷ v ∷ ws) h =
@@ -79,7 +79,7 @@ words_back (w ∷ v ∷ ws) h =
 
 -- no line feed stands within a line
 abbrev Unfed : List ℕ → Type 0
-Unfed l = All (λ b. eqb b 10 ≡ false) l
+Unfed l = AllByRecursion (λ b. eqb b 10 ≡ false) l
 
 unfed_word : (w : List ℕ) → all_plain w ≡ true → Unfed w
 unfed_word [] e = tt
@@ -87,7 +87,7 @@ unfed_word (b ∷ bs) e =
     let p = and_parts (plain b) _ e in
     ((plain_parts b p.0).1, unfed_word bs p.1)
 
-unfed : (ws : List (List ℕ)) → All PlainWord ws → Unfed (spaced ws)
+unfed : (ws : List (List ℕ)) → AllByRecursion PlainWord ws → Unfed (spaced ws)
 unfed [] h = tt
 unfed (w ∷ []) h = unfed_word w h.0.1
 unfed (w ∷ v ∷ ws) h = All-append _ w (32 ∷ spaced (v ∷ ws)) (unfed_word w h.0.1) (refl, unfed (v ∷ ws) h.1)
@@ -103,7 +103,7 @@ abbrev pub numbered : ℕ → List (List (List ℕ)) → Lines
 numbered n [] = end n
 numbered n (ws ∷ page) = line n ws (numbered (suc n) page)
 
-pub page_back : (n : ℕ) (page : List (List (List ℕ))) → All PlainLine page → meaningful n (lines (flat_map line_of page)) ≡ numbered n page
+pub page_back : (n : ℕ) (page : List (List (List ℕ))) → AllByRecursion PlainLine page → meaningful n (lines (flat_map line_of page)) ≡ numbered n page
 page_back n [] h = refl
 page_back n (ws ∷ page) h =
     let rest = flat_map line_of page in

@@ -1,6 +1,6 @@
 -- The canonical text of requests: decimal numerals, one blank between the words of a line, a line feed after each line.
 use Rattle.std.specs.Prelude.{◌≡◌, ℕ, zero, suc, ◌*◌, ◌^◌, ◌<◌, List, [], ◌∷◌, ◌++◌, map, length, take, drop, None, codes, decimal, Option}
-use Rattle.std.specs.List.{flat_map, AllByRecursion as All}
+use Rattle.std.specs.List.{flat_map, AllByRecursion}
 use Rattle.requests.specs.declared.fault.Fault.{Fault}
 use Rattle.requests.specs.Format.{row_lines, Reads}
 use Rattle.algebra.specs.Matrix.{Matrix}
@@ -44,7 +44,7 @@ pub record Proper (m : Matrix) : Type 0 where
   pub rows_fit : m.rows < 2 ^ 32
   pub columns_fit : m.columns < 2 ^ 32
   pub full : length m.cells ≡ m.rows * m.columns
-  pub cells_fit : All (λ n. n < 2 ^ 32) m.cells
+  pub cells_fit : AllByRecursion (λ n. n < 2 ^ 32) m.cells
 
 abbrev pub ProperRequest : Asked → Type 0
 ProperRequest (product ring left right) = Proper left × Proper right
@@ -55,4 +55,4 @@ OneReading text ps f = (qs : List Asked) (g : Option Fault) → Reads text qs g 
 
 -- where the text is the canonical text of some requests, those are read, and no fault
 abbrev pub ReadBack : List ℕ → List Asked → Option Fault → Type 0
-ReadBack text ps f = (qs : List Asked) → All ProperRequest qs → text ≡ written qs → (ps ≡ qs) × (f ≡ None)
+ReadBack text ps f = (qs : List Asked) → AllByRecursion ProperRequest qs → text ≡ written qs → (ps ≡ qs) × (f ≡ None)
