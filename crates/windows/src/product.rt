@@ -18,7 +18,7 @@ use algebra::ring::Ring;
 pub fn product<R: Ring>(r: &R, a: &Window, b: &Window, c: Window) -> Result<(), Refusal>
     ensures answer { outcome told result ≡ product_answer (R.Ring.meaning r.now).order (shown a.now) (shown b.now) (shown c.entry).rows (shown c.entry).columns }
     ensures written { c.exit.0.now ≡ unless_refused result (product_cells (R.Ring.meaning r.now) (shown a.now) (shown b.now)) (shown c.entry).cells }
-    ensures kept { (a.now ≡ a.now) × (b.now ≡ b.now) }
+    ensures kept { (a.exit.now ≡ a.entry.now) × (b.exit.now ≡ b.entry.now) }
 {
     let Window {
         cells,
