@@ -140,10 +140,10 @@ module _ (m : Meaning) (laws : FieldLaws m) (n : ℕ) where
         dot_codes m laws (length es) (entries ws) (λ i. entries (row es i).coefficients j) (λ i _. codes_at m laws ws cw i)
         (λ i l. codes_at m laws (row es i).coefficients (s i l).coefficients.codes j)
 
-    pub value-code :
+    pub value_code :
         (value_sum m ws es < m.order)
         × (code m laws (value_sum m ws es) ≡ dot (code_ops m laws) (length es) (vec m laws ws) (value_of es))
-    value-code =
+    value_code =
         dot_codes m laws (length es) (entries ws) (λ i. (row es i).value) (λ i _. codes_at m laws ws cw i) (λ i l. (s i l).value)
 
   -- weights over the field, as a list
@@ -163,9 +163,9 @@ module _ (m : Meaning) (laws : FieldLaws m) (n : ℕ) where
           code_same m laws _ _ u.0 (codes_at m laws cs hc j) (u.1 ∙ listed_weights (λ i. coef es i j) ∙ columns j l);
     }
 
-    pub listed-value :
+    pub listed_value :
         (value_sum m (listed w) es < m.order)
         × (code m laws (value_sum m (listed w) es) ≡ dot (code_ops m laws) (length es) w (value_of es))
-    listed-value =
-        let u = value-code (listed w) es (listed_vector w).codes s in
+    listed_value =
+        let u = value_code (listed w) es (listed_vector w).codes s in
         (u.0, u.1 ∙ listed_weights (value_of es))

@@ -14,7 +14,7 @@ use Rattle.linear.proofs.Identities.{*-zero, from_less}
 use Rattle.linear.proofs.Solving.{open_row, val_sat}
 use Rattle.linear.proofs.Among.{among_yes, among_no, among_each, among_rising, among_once, sum_among}
 use Rattle.linear.proofs.Codes.{Code, same_code, code, code_at, code_same, vec, field, code_ops}
-use Rattle.linear.proofs.Systems.{tabulated, coef, value_of, listed, listed_vector, listed_at, listed_builds, listed-value}
+use Rattle.linear.proofs.Systems.{tabulated, coef, value_of, listed, listed_vector, listed_at, listed_builds, listed_value}
 use Rattle.linear.proofs.Tables.{Tabled, tabled_few}
 use Rattle.logs.specs.Reduced.{LeadsAt, Built, ReducedForm, Reduction}
 
@@ -37,7 +37,7 @@ module _ (m : Meaning) (laws : FieldLaws m) (n : ℕ) where
       → dot (code_ops m laws) (length es) w (value_of m laws n es) ≡ code m laws e.value
       → Built m n es e
   weights_build es e w sd se few past columns value =
-      let u = listed-value m laws n es sd few w in (
+      let u = listed_value m laws n es sd few w in (
         listed m laws n w,
         listed_builds m laws n es sd few w e.coefficients se.coefficients.codes past columns,
         code_same m laws _ _ u.0 se.value (u.1 ∙ value),

@@ -15,7 +15,7 @@ use Rattle.linear.proofs.Solving.{fixed, kern_sat, val_sat}
 use Rattle.linear.proofs.Uniqueness.{same_row, same_val}
 use Rattle.linear.proofs.Among.{among_each, among_all, among_once, among_same, among_count, member_at, member_find}
 use Rattle.linear.proofs.Codes.{Code, same_code, code, code_one, to_zero, from_zero, vec, field, code_ops}
-use Rattle.linear.proofs.Systems.{tabulated, coef, value_of, Meets, meets_to, dot_vec, column_code, value-code}
+use Rattle.linear.proofs.Systems.{tabulated, coef, value_of, Meets, meets_to, dot_vec, column_code, value_code}
 use Rattle.linear.proofs.Systems.{listed, listed_vector, listed_at, listed_possible, vectors_same}
 use Rattle.linear.proofs.Tables.{Tabled, tabled_to}
 use Rattle.logs.specs.Offers.{Log, kept}
@@ -36,7 +36,7 @@ module _ (m : Meaning) (laws : FieldLaws m) (n : ℕ) where
       (λ j l. ap (λ x. x ⊗ v j) (ap (code m laws) (sym (b.1.columns j l)) ∙ (column_code m laws n b.0 es b.1.codes sd j).1))
       ∙ dot_rows (field m laws).ring n (length es) (vec m laws b.0) (coef m laws n es) v
       ∙ dot_cong (field m laws).ring (length es) (vec m laws b.0) _ _ h
-      ∙ sym (value-code m laws n b.0 es b.1.codes sd).1
+      ∙ sym (value_code m laws n b.0 es b.1.codes sd).1
       ∙ ap (code m laws) b.2
 
 module _ {K : Type 0} (F : FieldOn K) (n : ℕ) (R : ℕ → ℕ → K) (val : ℕ → K) where

@@ -1,6 +1,6 @@
 // Asking a published form: questions and replies as values.
 ghost use Rattle.std.specs.Prelude.{◌≡◌, replicate, IfOk, Decides};
-ghost use Rattle.logs.specs.Questions.{solution as aboutSolution, kernel as aboutKernel};
+ghost use Rattle.logs.specs.Questions.{solution as about_solution, kernel as about_kernel};
 ghost use Rattle.pass.specs.Questions.{questioned, replied, Replied};
 
 use algebra::field::Field;
@@ -50,7 +50,7 @@ fn ask_solution<F: Field + Drop>(
     unknowns: usize,
     published: &Published<F>,
 ) -> Result<Reply, AllocError>
-    ensures { IfOk result (Replied (F.Ring.meaning published.now.field) published.now.table (aboutSolution (replicate unknowns 0))) }
+    ensures { IfOk result (Replied (F.Ring.meaning published.now.field) published.now.table (about_solution (replicate unknowns 0))) }
 {
     let mut content = vec![in heap; 0u32; unknowns]?;
     let result = published.solution(&mut content);
@@ -63,7 +63,7 @@ fn ask_kernel<F: Field + Drop>(
     published: &Published<F>,
     k: usize,
 ) -> Result<Reply, AllocError>
-    ensures { IfOk result (Replied (F.Ring.meaning published.now.field) published.now.table (aboutKernel k (replicate unknowns 0))) }
+    ensures { IfOk result (Replied (F.Ring.meaning published.now.field) published.now.table (about_kernel k (replicate unknowns 0))) }
 {
     let mut content = vec![in heap; 0u32; unknowns]?;
     let result = published.kernel(k, &mut content);

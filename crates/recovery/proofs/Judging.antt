@@ -11,7 +11,7 @@ use Rattle.linear.proofs.Identities.{+_assoc, +-zero, zero-+, +-neg, neg_sum, ne
 use Rattle.linear.proofs.Sums.{sum_zero}
 use Rattle.linear.proofs.Weights.{combined}
 use Rattle.linear.proofs.Codes.{Code, code, code_same, codes_at, code_sum, code_product, code_negative, to_zero, from_zero, zero_code, vec, field, code_ops}
-use Rattle.linear.proofs.Systems.{coef, value_of, listed, listed_vector, listed_at, vectors_same, listed_builds, listed-value}
+use Rattle.linear.proofs.Systems.{coef, value_of, listed, listed_vector, listed_at, vectors_same, listed_builds, listed_value}
 use Rattle.linear.proofs.Tables.{Tabled, tabled_few, rest, rest_value, closed_holds, closed_fails}
 use Rattle.recovery.specs.Cells.{cell, plus_times, taken_out}
 use Rattle.recovery.proofs.Showing.{Shows}
@@ -187,7 +187,7 @@ module _ (m : Meaning) (laws : FieldLaws m) (n : ℕ) (es : List Equation) (t : 
 
     value_sum_lem : (value_sum m ws es < m.order) × (code m laws (value_sum m ws es) ≡ sum (code_ops m laws) n (λ p. c p ⊗ t.val_of p))
     value_sum_lem =
-        let u = listed-value m laws n es sd few taken_weight in (
+        let u = listed_value m laws n es sd few taken_weight in (
           subst (λ us. value_sum m us es < m.order) (sym weights_listed) u.0,
           ap (λ us. code m laws (value_sum m us es)) weights_listed ∙ u.1 ∙ made (value_of m laws n es) t.val_of t.values,
         )

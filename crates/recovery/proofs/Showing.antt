@@ -12,7 +12,7 @@ use Rattle.linear.specs.Field.{FieldLaws}
 use Rattle.linear.specs.Table.{Free}
 use Rattle.linear.proofs.Among.{among_same, among_each}
 use Rattle.linear.proofs.Codes.{Code, code, code_is, code_same, to_zero, from_zero, field}
-use Rattle.linear.proofs.Systems.{listed, listed_builds, listed-value}
+use Rattle.linear.proofs.Systems.{listed, listed_builds, listed_value}
 use Rattle.linear.proofs.Tables.{Tabled, tabled_few}
 use Rattle.logs.specs.Reduced.{ReducedForm}
 use Rattle.logs.proofs.Forming.{leads, pivots_of, row_at, rows_of, empty_at, tabled_form}
@@ -106,7 +106,7 @@ module _ (m : Meaning) (laws : FieldLaws m) (n : ℕ) (es : List Equation) (t : 
           (listed_builds m laws n es sd few (t.weight_of p) (slot_row slots n p).coefficients (row_codes p l) (t.fresh p l)
           (λ j k. t.builds p l j k ∙ sym (s.rows p j l k) ∙ ap (code m laws) (sym (get_or-map-range_with_len (λ j. cell slots p j) 0 n j j 0 k (omega arith)))));
       values = λ p l.
-          let u = listed-value m laws n es sd few (t.weight_of p) in
+          let u = listed_value m laws n es sd few (t.weight_of p) in
           ap (λ ws. value_sum m ws es) (weights_same p l)
           ∙ code_same m laws _ (cell slots p n) u.0 (s.codes p n l (omega arith)) (u.1 ∙ t.values p l ∙ sym (s.values p l));
     }

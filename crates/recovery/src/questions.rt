@@ -3,7 +3,7 @@ ghost use Rattle.std.specs.Prelude.{◌≡◌, ℕ, length, Err};
 ghost use Rattle.algebra.specs.Outcome.{Told, outcome};
 ghost use Rattle.logs.specs.Offers.{Log};
 ghost use Rattle.logs.specs.Questions.{solution_checked, kernel_checked, unknown_checked, wrote, said, Answers};
-ghost use Rattle.logs.specs.Questions.{solution as aboutSolution, kernel as aboutKernel, unknown as aboutUnknown};
+ghost use Rattle.logs.specs.Questions.{solution as about_solution, kernel as about_kernel, unknown as about_unknown};
 ghost use Rattle.logs.specs.Refusals.{told};
 ghost use Rattle.recovery.specs.Tables.{Holds, verdict};
 
@@ -19,7 +19,7 @@ impl<F: Field + Drop> Published<F> {
     pub fn solution(&self, out: &mut [u32]) -> Result<(), Refusal>
         ensures answer { outcome told result ≡ solution_checked self.now.table.width (length out.old) }
         ensures refused { (x : Told) → outcome told result ≡ Err x → out.new ≡ out.old }
-        ensures log { (n : ℕ) (log : Log) → Holds (F.Ring.meaning self.now.field) n log self.now.table → Answers (F.Ring.meaning self.now.field) n log (aboutSolution out.old) (wrote (outcome told result) out.new) }
+        ensures log { (n : ℕ) (log : Log) → Holds (F.Ring.meaning self.now.field) n log self.now.table → Answers (F.Ring.meaning self.now.field) n log (about_solution out.old) (wrote (outcome told result) out.new) }
     {
         if out.len() != self.table.width {
             return Err(Refusal::Length);
@@ -33,7 +33,7 @@ impl<F: Field + Drop> Published<F> {
     pub fn kernel(&self, k: usize, out: &mut [u32]) -> Result<(), Refusal>
         ensures answer { outcome told result ≡ kernel_checked self.now.table.width self.now.table.count k (length out.old) }
         ensures refused { (x : Told) → outcome told result ≡ Err x → out.new ≡ out.old }
-        ensures log { (n : ℕ) (log : Log) → Holds (F.Ring.meaning self.now.field) n log self.now.table → Answers (F.Ring.meaning self.now.field) n log (aboutKernel k out.old) (wrote (outcome told result) out.new) }
+        ensures log { (n : ℕ) (log : Log) → Holds (F.Ring.meaning self.now.field) n log self.now.table → Answers (F.Ring.meaning self.now.field) n log (about_kernel k out.old) (wrote (outcome told result) out.new) }
     {
         let n = self.table.width;
         if k >= n - self.table.count {
@@ -51,7 +51,7 @@ impl<F: Field + Drop> Published<F> {
     // 6 where there are not so many unknowns.
     pub fn unknown(&self, j: usize) -> Result<Symbol, Refusal>
         ensures answer { verdict (outcome told result) ≡ unknown_checked self.now.table.width j }
-        ensures log { (n : ℕ) (log : Log) → Holds (F.Ring.meaning self.now.field) n log self.now.table → Answers (F.Ring.meaning self.now.field) n log (aboutUnknown j) (said (outcome told result)) }
+        ensures log { (n : ℕ) (log : Log) → Holds (F.Ring.meaning self.now.field) n log self.now.table → Answers (F.Ring.meaning self.now.field) n log (about_unknown j) (said (outcome told result)) }
     {
         let n = self.table.width;
         if j >= n {

@@ -7,7 +7,7 @@ use Rattle.algebra.specs.Vectors.{entries}
 use Rattle.algebra.specs.Combinations.{Builds, value_sum}
 use Rattle.linear.specs.Field.{FieldLaws}
 use Rattle.linear.proofs.Codes.{code, code_same, vec, field}
-use Rattle.linear.proofs.Systems.{coef, value_of, dot_vec, meets_to, column_code, value-code}
+use Rattle.linear.proofs.Systems.{coef, value_of, dot_vec, meets_to, column_code, value_code}
 use Rattle.linear.proofs.Weights.{built_sat}
 use Rattle.logs.specs.declared.answer.Answer.TheVariants.{Kept, Implied, Contradiction}
 use Rattle.logs.specs.Offers.{Offer, equation, checked, Log, offered, kept, accepted, PossibleAfter}
@@ -24,7 +24,7 @@ module _ (m : Meaning) (laws : FieldLaws m) (n : ℕ) (pos : 0 < n) {log : Log} 
       let es = kept log in
       let s = made_sounds md in
       let t = dot_vec m laws n o.coefficients v (checked_sound m n o passed).0.coefficients.codes p.vector in
-      let u = value-code m laws n ws es b.codes s in
+      let u = value_code m laws n ws es b.codes s in
       code_same m laws _ _ t.0 u.0
       (t.1
       ∙ built_sat (field m laws) n (length es) (λ q. vec m laws ws) (coef m laws n es) (λ q. vec m laws o.coefficients) (value_of m laws n es)
