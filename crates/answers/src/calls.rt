@@ -63,12 +63,12 @@ pub fn published_line(heap: Global, rank: usize, free: usize) -> Result<String, 
 
 pub fn solution_line(
     heap: Global,
-    res: Result<(), Refusal>,
+    answer: Result<(), Refusal>,
     out: &[u32],
 ) -> Result<String, AllocError>
-    ensures { IfOk result (λ s. string_bytes s ≡ or_refusal (λ _. solution_text out.now) (outcome told res)) }
+    ensures { IfOk result (λ s. string_bytes s ≡ or_refusal (λ _. solution_text out.now) (outcome told answer)) }
 {
-    match res {
+    match answer {
         Ok(()) => numbers_line(heap, "solution", out),
         Err(refusal) => refusal_line(heap, refusal),
     }
@@ -78,12 +78,12 @@ pub fn solution_line(
 pub fn kernel_line(
     heap: Global,
     k: usize,
-    res: Result<(), Refusal>,
+    answer: Result<(), Refusal>,
     out: &[u32],
 ) -> Result<String, AllocError>
-    ensures { IfOk result (λ s. string_bytes s ≡ or_refusal (λ _. kernel_text k out.now) (outcome told res)) }
+    ensures { IfOk result (λ s. string_bytes s ≡ or_refusal (λ _. kernel_text k out.now) (outcome told answer)) }
 {
-    match res {
+    match answer {
         Ok(()) => render_kernel(heap, k, out),
         Err(refusal) => refusal_line(heap, refusal),
     }
@@ -93,11 +93,11 @@ pub fn kernel_line(
 pub fn symbol_line(
     heap: Global,
     j: usize,
-    res: Result<Symbol, Refusal>,
+    answer: Result<Symbol, Refusal>,
 ) -> Result<String, AllocError>
-    ensures { IfOk result (λ s. string_bytes s ≡ or_refusal (symbol_text j) (outcome told res)) }
+    ensures { IfOk result (λ s. string_bytes s ≡ or_refusal (symbol_text j) (outcome told answer)) }
 {
-    match res {
+    match answer {
         Ok(Symbol::Known(code)) => format!(in heap; "symbol {j} known {code}\n"),
         Ok(Symbol::Open(k)) => format!(in heap; "symbol {j} open {k}\n"),
         Err(refusal) => refusal_line(heap, refusal),

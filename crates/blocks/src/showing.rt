@@ -70,8 +70,8 @@ fn show_answer(rt: &HostRuntime, answer: Answer) -> anyhow::Result<()> {
 }
 
 // The refusal of a call that writes to a slice, before the content of the slice.
-fn show_written(rt: &HostRuntime, res: Result<(), Refusal>) -> anyhow::Result<()> {
-    if let Err(refusal) = res {
+fn show_written(rt: &HostRuntime, answer: Result<(), Refusal>) -> anyhow::Result<()> {
+    if let Err(refusal) = answer {
         show_refusal(rt, refusal)?;
         print!(rt; ", slice ")?;
     }

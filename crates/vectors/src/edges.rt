@@ -32,8 +32,8 @@ pub(crate) fn run(rt: &HostRuntime) -> anyhow::Result<()> {
     show_largest(rt)
 }
 
-fn show(rt: &HostRuntime, what: &str, res: Result<(), Refusal>) -> anyhow::Result<()> {
-    match res {
+fn show(rt: &HostRuntime, what: &str, answer: Result<(), Refusal>) -> anyhow::Result<()> {
+    match answer {
         Ok(()) => println!(rt; "{what}: passes")?,
         Err(Refusal::Code { window, position }) => println!(rt;
             "{what}: refused 4 window {window} position {position}"
