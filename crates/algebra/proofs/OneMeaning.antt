@@ -1,9 +1,8 @@
 -- Rings of one meaning agree in every answer: the negative and the inverse are fixed by sum and product.
-use Rattle.std.proofs.Common.{◌≡◌, ℕ, ◌<◌, ◌≤◌, Bool, ◌⊎◌, Some, None, Decides, Option, sym, refl, ap, ◌∙◌, inl, inr, arith}
+use Rattle.std.proofs.Common.{◌≡◌, ℕ, ◌<◌, ◌≤◌, ◌⊎◌, Some, None, Option, sym, refl, ap, ◌∙◌, inl, inr, arith}
 use native.Mathlib.Decide.{dec_lt}
 use Rattle.algebra.specs.Meaning.{Meaning, Laws, RingLaws, OneMeaning}
-use Rattle.std.proofs.lemmas.Bool.Decides.{Decides-and, Decides-like, Decides-eqb}
-use Rattle.algebra.specs.Agreement.{AnswerAlike, InvertAlike, answers_alike}
+use Rattle.algebra.specs.Agreement.{InvertAlike}
 use Rattle.algebra.specs.Inverse.{Inverts}
 
 -- 0 has one summand for each code, and 1 one factor
@@ -78,33 +77,14 @@ module _ (m k : Meaning) (lm : RingLaws m) (lk : RingLaws k) (one : OneMeaning m
       (one_inverse m.order m.sum m.product m.negative lm.laws a b c h.1 h.2 code h.3
       (one.products a c h.1 code ∙ i.3))
 
-  pub answer_alike : (a b : ℕ) → AnswerAlike m k a b
-  answer_alike a b =
-      record { orders = one.orders; sums = same_sum a b; products = same_product a b; negatives = same_negative a }
-
--- the test tells whether two rings answer alike
-module _ (m k : Meaning) (a b : ℕ) where
-  joined : ((((m.order ≡ k.order) × (m.sum a b ≡ k.sum a b)) × (m.product a b ≡ k.product a b)) × (m.negative a ≡ k.negative a))
-      → AnswerAlike m k a b
-  joined h = record { orders = h.0.0.0; sums = h.0.0.1; products = h.0.1; negatives = h.1 }
-
-  parted : AnswerAlike m k a b
-      → ((((m.order ≡ k.order) × (m.sum a b ≡ k.sum a b)) × (m.product a b ≡ k.product a b)) × (m.negative a ≡ k.negative a))
-  parted h = (((h.orders, h.sums), h.products), h.negatives)
-
-  pub comparisons : Decides (answers_alike m k a b) (AnswerAlike m k a b)
-  comparisons =
-      Decides-like _ joined parted
-      (Decides-and _ _ (Decides-and _ _ (Decides-and _ _ (Decides-eqb _ _) (Decides-eqb _ _)) (Decides-eqb _ _)) (Decides-eqb _ _))
-
--- a meaning has one meaning with itself, so each field answers one inverse only
+-- a meaning has one meaning with itself
 pub itself : (m : Meaning) → OneMeaning m m
 itself m = record { orders = refl; sums = λ a b h k. refl; products = λ a b h k. refl }
 
--- the comparison of the two inverses tells whether the fields invert alike
-module _ (m k : Meaning) (lm : RingLaws m) (lk : RingLaws k) (a : ℕ) where
-  pub inverses_compared : (r s : Option ℕ) → Inverts m a r → Inverts k a s → (x : Bool) → Decides x (r ≡ s) → Decides x (InvertAlike m k a)
-  inverses_compared r s hr hs x told =
-      Decides-like x
-      (λ e b c hb hc. same_inverse m m lm lm (itself m) a b r hb hr ∙ e ∙ same_inverse k k lk lk (itself k) a s c hs hc)
-      (λ alike. alike r s hr hs) told
+-- so each field answers one inverse only
+pub inverse_once : (m : Meaning) (a : ℕ) (r b : Option ℕ) → RingLaws m → Inverts m a r → Inverts m a b → r ≡ b
+inverse_once m a r b l hr hb = same_inverse m m l l (itself m) a r b hr hb
+
+-- fields that invert alike answer one inverse
+pub alike_at : (m k : Meaning) (a : ℕ) (r s : Option ℕ) → Inverts m a r → Inverts k a s → InvertAlike m k a → r ≡ s
+alike_at m k a r s hr hs alike = alike r s hr hs

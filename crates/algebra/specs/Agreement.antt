@@ -1,5 +1,5 @@
 -- Rings that answer alike.
-use Rattle.std.specs.Prelude.{◌≡◌, ℕ, Bool, ◌&&◌, Option, ◌==◌}
+use Rattle.std.specs.Prelude.{◌≡◌, ℕ, Option}
 use Rattle.algebra.specs.Inverse.{Inverts}
 use Rattle.algebra.specs.Meaning.{Meaning}
 
@@ -9,11 +9,6 @@ pub record AnswerAlike (m k : Meaning) (a b : ℕ) : Type 0 where
   pub sums : m.sum a b ≡ k.sum a b
   pub products : m.product a b ≡ k.product a b
   pub negatives : m.negative a ≡ k.negative a
-
--- the same as a test
-abbrev pub answers_alike : Meaning → Meaning → ℕ → ℕ → Bool
-answers_alike m k a b =
-    (m.order == k.order) && m.sum a b == k.sum a b && m.product a b == k.product a b && m.negative a == k.negative a
 
 -- what the inverses of two fields answer at a code
 abbrev pub InvertAlike : Meaning → Meaning → ℕ → Type 0
