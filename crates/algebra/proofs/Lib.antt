@@ -3,3 +3,4 @@ pub mod Guarded
 pub mod OneMeaning
 pub mod Sums
 pub mod Rows
+pub mod Positions

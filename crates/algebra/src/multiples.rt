@@ -7,9 +7,10 @@ use crate::ring::Ring;
 pub fn add_multiple<R: Ring>(r: &R, onto: &mut [u32], by: u32, row: &[u32])
     ensures { MultipleAdded (R.Ring.meaning r.now) onto.old by row.now onto.new }
 {
+    // After `onto.iter_mut().zip(row)` a proof knows nothing of the codes of `onto`.
     let both = onto.len().min(row.len());
-    for i in 0..both {
-        onto[i] = r.sum(onto[i], r.product(by, row[i]));
+    for (i, y) in row[..both].iter().enumerate() {
+        onto[i] = r.sum(onto[i], r.product(by, *y));
     }
 }
 
@@ -17,7 +18,7 @@ pub fn add_multiple<R: Ring>(r: &R, onto: &mut [u32], by: u32, row: &[u32])
 pub fn scale<R: Ring>(r: &R, row: &mut [u32], by: u32)
     ensures { Scaled (R.Ring.meaning r.now) row.old by row.new }
 {
-    for i in 0..row.len() {
-        row[i] = r.product(by, row[i]);
+    for x in row.iter_mut() {
+        *x = r.product(by, *x);
     }
 }
