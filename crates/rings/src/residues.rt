@@ -13,22 +13,6 @@ const MODULUS: u32 = 65521;
 #[derive(Clone, Copy)]
 pub struct Residues;
 
-fn sum_of(a: u32, b: u32) -> u32
-    requires { (a < 65521) × (b < 65521) }
-    ensures { result ≡ (a + b) % 65521 }
-{
-    let sum = a + b;
-    if sum < MODULUS { sum } else { sum - MODULUS }
-}
-
-// The product of two residues is below 2^32.
-fn product_of(a: u32, b: u32) -> u32
-    requires { (a < 65521) × (b < 65521) }
-    ensures { result ≡ (a * b) % 65521 }
-{
-    a * b % MODULUS
-}
-
 impl Ring for Residues {
     ghost meaning = { λ _. residues };
 
@@ -39,19 +23,19 @@ impl Ring for Residues {
     }
 
     fn sum(&self, a: u32, b: u32) -> u32 {
-        if a < MODULUS && b < MODULUS {
-            sum_of(a, b)
-        } else {
-            0
+        if a >= MODULUS || b >= MODULUS {
+            return 0;
         }
+        let sum = a + b;
+        if sum < MODULUS { sum } else { sum - MODULUS }
     }
 
+    // The product of two residues is below 2^32.
     fn product(&self, a: u32, b: u32) -> u32 {
-        if a < MODULUS && b < MODULUS {
-            product_of(a, b)
-        } else {
-            0
+        if a >= MODULUS || b >= MODULUS {
+            return 0;
         }
+        a * b % MODULUS
     }
 
     fn negative(&self, a: u32) -> u32 {
@@ -70,7 +54,7 @@ impl Field for Residues {
         let mut rest = a;
         let mut factor = 1;
         while rest != 1 {
-            factor = product_of(factor, MODULUS - MODULUS / rest);
+            factor = self.product(factor, MODULUS - MODULUS / rest);
             rest = MODULUS % rest;
         }
         Some(factor)

@@ -1,6 +1,7 @@
 // Worked values of each ring.
-use crate::octets::by_shifts::OctetsByShifts;
-use crate::octets::by_table::OctetsByTable;
+use crate::octets::Octets;
+use crate::octets::by_shifts::ByShifts;
+use crate::octets::by_table::ByTable;
 use crate::residues::Residues;
 use crate::words::Words;
 use algebra::field::Field;
@@ -41,6 +42,6 @@ fn octet_values<F: Field>(rt: &impl Abort, f: &F) {
 
 #[test]
 fn octets(rt: HostRuntime) {
-    octet_values(&rt, &OctetsByTable);
-    octet_values(&rt, &OctetsByShifts);
+    octet_values(&rt, &Octets(ByTable));
+    octet_values(&rt, &Octets(ByShifts));
 }

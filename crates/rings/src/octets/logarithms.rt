@@ -1,7 +1,10 @@
 // The logarithms to the base 2 in the field of order 256.
 ghost use Rattle.std.specs.Prelude.{◌≡◌, ℕ, ◌<◌, T};
+ghost use Rattle.std.specs.NonZero.{non_zero_u8_get};
 ghost use Rattle.rings.specs.Octets.{power_of};
 ghost use Rattle.rings.specs.Tables.{are_logarithms};
+
+use std::num::NonZeroU8;
 
 // Entry a - 1 is the logarithm of a: the i below 255 for which the power i of 2 is a.
 const LOGARITHMS: [u8; 255] = [
@@ -27,11 +30,10 @@ fn logarithms() -> &'static [u8; 255]
     &LOGARITHMS
 }
 
-pub(super) fn logarithm(a: u32) -> u32
-    requires { (0 < a) × (a < 256) }
+pub(super) fn logarithm(a: NonZeroU8) -> u8
     ensures below { result < 255 }
-    ensures value { power_of 0x11D result ≡ a }
-    ensures unique { (i : ℕ) → i < 255 → power_of 0x11D i ≡ a → result ≡ i }
+    ensures value { power_of 0x11D result ≡ non_zero_u8_get a }
+    ensures unique { (i : ℕ) → i < 255 → power_of 0x11D i ≡ non_zero_u8_get a → result ≡ i }
 {
-    logarithms()[a as usize - 1] as u32
+    logarithms()[usize::from(a.get()) - 1]
 }

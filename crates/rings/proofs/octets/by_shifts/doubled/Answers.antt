@@ -1,19 +1,27 @@
--- A shift, and the polynomial taken away where x^8 comes up, is the product with 2.
-use Rattle.std.proofs.Common.{◌≡◌, ◌*◌, ◌<◌, sym, ◌∙◌, subst, arith}
+-- The shift drops x^8, which is x^4 + x^3 + x^2 + 1.
+use Rattle.std.proofs.Common.{◌≡◌, ◌+◌, ◌*◌, ◌%◌, ◌<◌, sym, ap, ◌∙◌, zero-add, arith, lit<}
+use Rattle.std.proofs.lemmas.Nat.{xor_block}
 use lib.Bits.{bit_xor}
-use Rattle.rings.specs.Polynomials.{double}
 use Rattle.rings.specs.OctetLaws.{double_low, double_high}
-use Rattle.rings.specs.OctetFields.{two, double_code}
+use Rattle.rings.specs.OctetFields.{two}
 use Rattle.rings.specs.OctetTests.{tests}
 use Rattle.rings.proofs.octets.by_shifts.doubled.Goals as goal
 
 pub returns-then-a-lt128 : goal.returns-then-a-lt128
 returns-then-a-lt128 c =
     let a = c.args.a in
-    record { value = sym (two tests a c.requires ∙ double_low 0x11D a c.if-a-lt128.true); code = omega arith }
+    let whole : a * 2 % 256 ≡ a * 2 = omega arith in
+    whole ∙ sym (two tests a (omega arith) ∙ double_low 0x11D a c.if-a-lt128.true)
 
 pub returns-else-a-lt128 : goal.returns-else-a-lt128
 returns-else-a-lt128 c =
     let a = c.args.a in
-    let is : double 0x11D a ≡ bit_xor (a * 2) 0x11D = double_high 0x11D a c.if-a-lt128.false c.requires in
-    record { value = sym (two tests a c.requires ∙ is); code = subst (λ z. z < 256) is (double_code tests a c.requires) }
+    let r = a * 2 % 256 in
+    let low : r < 256 = omega arith in
+    let whole : 1 * 256 + r ≡ a * 2 = omega arith in
+    sym
+    (two tests a (omega arith)
+    ∙ double_high 0x11D a c.if-a-lt128.false (omega arith)
+    ∙ ap (λ z. bit_xor z 0x11D) (sym whole)
+    ∙ xor_block 8 1 1 r 0x1D low (lit< tt)
+    ∙ zero-add (bit_xor r 0x1D))
