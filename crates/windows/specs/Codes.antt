@@ -1,13 +1,9 @@
--- The first number of a list that is no code, and its refusal.
-use Rattle.std.specs.Prelude.{ℕ, ◌+◌, cond, List, [], ◌∷◌, Some, None, Option, Result, nat_lt}
-use Rattle.algebra.specs.Outcome.{Told, refused}
+-- Refusing the first number that is no code.
+use Rattle.std.specs.Prelude.{ℕ, Some, None, Err, Option, Result}
+use Rattle.windows.specs.declared.refusal.Refusal.{Refusal}
+use Rattle.windows.specs.declared.refusal.Refusal.TheVariants.{Code}
 
--- the position, counted from k, of the first number that is not below n
-abbrev pub first_outside : ℕ → ℕ → List ℕ → Option ℕ
-first_outside n k [] = None
-first_outside n k (x ∷ xs) = cond (nat_lt x n) (first_outside n (k + 1) xs) (Some k)
-
--- 4 with the window and the position of the first number that is no code, if there is one; else what follows
-abbrev pub unless_outside : {A : Type 0} → ℕ → Option ℕ → Result A Told → Result A Told
+-- the window and the position of the first number that is no code, if there is one; else what follows
+abbrev pub unless_outside : {A : Type 0} → ℕ → Option ℕ → Result A Refusal → Result A Refusal
 unless_outside window None rest = rest
-unless_outside window (Some position) rest = refused 4 (window ∷ position ∷ [])
+unless_outside window (Some position) rest = Err (Code window position)

@@ -2,9 +2,8 @@
 ghost use Rattle.std.specs.Prelude.{◌≡◌, ◌*◌, ◌<◌, length};
 ghost use Rattle.algebra.specs.Matrix.{row_major, entry};
 ghost use Rattle.algebra.specs.Operations.{operations, times};
-ghost use Rattle.algebra.specs.Outcome.{outcome, unless_refused};
+ghost use Rattle.algebra.specs.Outcome.{unless_refused};
 ghost use Rattle.windows.specs.Product.{product_answer, product_cells};
-ghost use Rattle.windows.specs.Refusals.{told};
 ghost use Rattle.windows.specs.Rows.{RowTimes};
 ghost use Rattle.windows.specs.Shown.{shown};
 
@@ -16,7 +15,7 @@ use algebra::ring::Ring;
 
 // C = A × B, whatever C held before. A refusal changes nothing.
 pub fn product<R: Ring>(r: &R, a: &Window, b: &Window, c: Window) -> Result<(), Refusal>
-    ensures answer { outcome told result ≡ product_answer (R.Ring.meaning r.now).order (shown a.now) (shown b.now) (shown c.entry).rows (shown c.entry).columns }
+    ensures answer { result ≡ product_answer (R.Ring.meaning r.now).order (shown a.now) (shown b.now) (shown c.entry).rows (shown c.entry).columns }
     ensures written { c.exit.0.now ≡ unless_refused result (product_cells (R.Ring.meaning r.now) (shown a.now) (shown b.now)) (shown c.entry).cells }
     ensures kept { (a.exit.now ≡ a.entry.now) × (b.exit.now ≡ b.entry.now) }
 {
@@ -37,7 +36,7 @@ fn product_into<R: Ring>(
     columns: usize,
 ) -> Result<(), Refusal>
     requires { length cells.old ≡ rows * columns }
-    ensures answer { outcome told result ≡ product_answer (R.Ring.meaning r.now).order (shown a.now) (shown b.now) rows columns }
+    ensures answer { result ≡ product_answer (R.Ring.meaning r.now).order (shown a.now) (shown b.now) rows columns }
     ensures written { cells.new ≡ unless_refused result (product_cells (R.Ring.meaning r.now) (shown a.now) (shown b.now)) cells.old }
 {
     check_product(r, a, b, rows, columns)?;
@@ -53,7 +52,7 @@ fn check_product<R: Ring>(
     rows: usize,
     columns: usize,
 ) -> Result<(), Refusal>
-    ensures { outcome told result ≡ product_answer (R.Ring.meaning r.now).order (shown a.now) (shown b.now) rows columns }
+    ensures { result ≡ product_answer (R.Ring.meaning r.now).order (shown a.now) (shown b.now) rows columns }
 {
     if a.columns != b.rows || rows != a.rows || columns != b.columns {
         return Err(Refusal::Fit);

@@ -1,6 +1,9 @@
 // Why a call on windows is refused.
-ghost use Rattle.std.specs.Prelude.{◌≡◌};
-ghost use Rattle.windows.specs.Refusals.{told};
+ghost use Rattle.std.specs.Prelude.{◌≡◌, Some};
+ghost use Rattle.windows.specs.Refusals.{number, refusal_text};
+
+use std::error::Error;
+use std::fmt;
 
 #[derive(Clone, Copy, PartialEq, Eq, Debug)]
 pub enum Refusal {
@@ -17,7 +20,7 @@ pub enum Refusal {
 impl Refusal {
     // The number that the refusal is known by.
     pub fn number(&self) -> u32
-        ensures { result ≡ (told self.now).number }
+        ensures { result ≡ number self.now }
     {
         match self {
             Refusal::Side => 7,
@@ -27,3 +30,20 @@ impl Refusal {
         }
     }
 }
+
+impl fmt::Display for Refusal {
+    ghost output = { λ r. Some (refusal_text r) };
+
+    fn fmt<W: fmt::Write>(&self, f: &mut fmt::Formatter<W>) -> fmt::Result {
+        let number = self.number();
+        match self {
+            Refusal::Code { window, position } => write!(
+                f,
+                "refused {number} window {window} position {position}"
+            ),
+            _ => write!(f, "refused {number}"),
+        }
+    }
+}
+
+impl Error for Refusal {}

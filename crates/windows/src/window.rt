@@ -1,7 +1,5 @@
 // Windows: lent slices of codes, shown as rows and columns.
 ghost use Rattle.std.specs.Prelude.{◌≡◌, ◌*◌, true, ◌&&◌, length};
-ghost use Rattle.algebra.specs.Outcome.{outcome};
-ghost use Rattle.windows.specs.Refusals.{told};
 ghost use Rattle.windows.specs.Sides.{is_side, checked};
 
 mod methods;
@@ -23,7 +21,7 @@ pub struct Window<'a> {
 
 // Whether a slice of this length can be shown with these sides.
 pub fn check(rows: usize, columns: usize, length: usize) -> Result<(), Refusal>
-    ensures { outcome told result ≡ checked rows columns length }
+    ensures { result ≡ checked rows columns length }
 {
     if rows < 1 || rows > LONGEST_SIDE || columns < 1 || columns > LONGEST_SIDE {
         return Err(Refusal::Side);
