@@ -4,5 +4,4 @@
 mod codes;
 pub mod product;
 pub mod refusal;
-mod rows;
 pub mod window;

@@ -1,7 +1,5 @@
 // The product of two windows, written into a third.
-ghost use Rattle.std.specs.Prelude.{◌≡◌, ◌*◌, ◌<◌, length};
-ghost use Rattle.algebra.specs.Matrix.{row_major, entry};
-ghost use Rattle.algebra.specs.Operations.{operations, times};
+ghost use Rattle.std.specs.Prelude.{◌≡◌, ◌*◌, length};
 ghost use Rattle.algebra.specs.Outcome.{unless_refused};
 ghost use Rattle.windows.specs.Product.{product_answer, product_cells};
 ghost use Rattle.windows.specs.Rows.{RowTimes};
@@ -9,8 +7,8 @@ ghost use Rattle.windows.specs.Shown.{shown};
 
 use crate::codes::check_codes;
 use crate::refusal::Refusal;
-use crate::rows::add_multiple;
 use crate::window::Window;
+use algebra::multiples::add_multiple;
 use algebra::ring::Ring;
 
 // C = A × B, whatever C held before. A refusal changes nothing.
@@ -27,20 +25,21 @@ pub fn product<R: Ring>(r: &R, a: &Window, b: &Window, c: Window) -> Result<(), 
     product_into(r, a, b, cells, rows, columns)
 }
 
+// The product into the slice of C, whose sides are given: after a branch C itself can no longer be taken apart.
 fn product_into<R: Ring>(
     r: &R,
     a: &Window,
     b: &Window,
-    cells: &mut [u32],
+    into: &mut [u32],
     rows: usize,
     columns: usize,
 ) -> Result<(), Refusal>
-    requires { length cells.old ≡ rows * columns }
+    requires { length into.old ≡ rows * columns }
     ensures answer { result ≡ product_answer (R.Ring.meaning r.now).order (shown a.now) (shown b.now) rows columns }
-    ensures written { cells.new ≡ unless_refused result (product_cells (R.Ring.meaning r.now) (shown a.now) (shown b.now)) cells.old }
+    ensures written { into.new ≡ unless_refused result (product_cells (R.Ring.meaning r.now) (shown a.now) (shown b.now)) into.old }
 {
     check_product(r, a, b, rows, columns)?;
-    product_table(r, cells, a.cells, b.cells, a.rows, a.columns, b.columns);
+    write_product(r, a, b, into);
     Ok(())
 }
 
@@ -61,37 +60,27 @@ fn check_product<R: Ring>(
     check_codes(r, 1, b.cells)
 }
 
-// Writes the table `a`, of rows of `middle` codes, times the table `b`, of rows of `columns` codes, into `c`.
-fn product_table<R: Ring>(
-    r: &R,
-    c: &mut [u32],
-    a: &[u32],
-    b: &[u32],
-    rows: usize,
-    middle: usize,
-    columns: usize,
-)
-    requires { (0 < columns) × (length c.old ≡ rows * columns) × (length a.now ≡ rows * middle) × (length b.now ≡ middle * columns) }
-    ensures { c.new ≡ row_major rows columns (times (operations (R.Ring.meaning r.now)) middle (entry middle a.now) (entry columns b.now)) }
+// Writes A × B, row after row.
+fn write_product<R: Ring>(r: &R, a: &Window, b: &Window, into: &mut [u32])
+    requires sides { a.now.columns ≡ b.now.rows }
+    requires room { length into.old ≡ a.now.rows * b.now.columns }
+    ensures { into.new ≡ product_cells (R.Ring.meaning r.now) (shown a.now) (shown b.now) }
 {
-    for i in 0..rows {
-        product_row(
-            r,
-            &mut c[i * columns..(i + 1) * columns],
-            &a[i * middle..(i + 1) * middle],
-            b,
-        );
+    // After `chunks_exact_mut` a proof knows nothing of the rows that were written.
+    let columns = b.columns;
+    for (i, left) in a.cells.chunks_exact(a.columns).enumerate() {
+        product_row(r, left, b, &mut into[i * columns..(i + 1) * columns]);
     }
 }
 
-// Writes the row `left` times the table `table` into `into`.
-fn product_row<R: Ring>(r: &R, into: &mut [u32], left: &[u32], table: &[u32])
-    requires { length table.now ≡ length left.now * length into.old }
-    ensures { RowTimes (R.Ring.meaning r.now) (length into.old) left.now table.now into.new }
+// Writes the row `left` times B.
+fn product_row<R: Ring>(r: &R, left: &[u32], b: &Window, into: &mut [u32])
+    requires sides { length left.now ≡ b.now.rows }
+    requires room { length into.old ≡ b.now.columns }
+    ensures { RowTimes (R.Ring.meaning r.now) left.now (shown b.now) into.new }
 {
     into.fill(0);
-    let columns = into.len();
-    for (k, by) in left.iter().enumerate() {
-        add_multiple(r, into, *by, &table[k * columns..(k + 1) * columns]);
+    for (by, row) in left.iter().zip(b.cells.chunks_exact(b.columns)) {
+        add_multiple(r, into, *by, row);
     }
 }

@@ -23,7 +23,8 @@ pub struct Window<'a> {
 pub fn check(rows: usize, columns: usize, length: usize) -> Result<(), Refusal>
     ensures { result ≡ checked rows columns length }
 {
-    if rows < 1 || rows > LONGEST_SIDE || columns < 1 || columns > LONGEST_SIDE {
+    let sides = 1..=LONGEST_SIDE;
+    if !sides.contains(&rows) || !sides.contains(&columns) {
         return Err(Refusal::Side);
     }
     if length != rows * columns {

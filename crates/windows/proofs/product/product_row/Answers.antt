@@ -1,26 +1,26 @@
-use Rattle.std.proofs.Common.{◌+◌, ◌*◌, ◌≤◌, length, ap, arith}
-use Rattle.algebra.proofs.Rows.{row_next, row_end, part_length}
-use Rattle.windows.proofs.RowSteps.{row_added}
+use Rattle.std.proofs.Common.{◌≡◌, ◌*◌, ◌<◌, ◌⊎◌, length, inl, inr, arith, sym, ap, ◌∙◌}
+use Rattle.std.proofs.lemmas.List.{length_push}
+use Rattle.std.specs.Iterator.Adapters.{zip_first, zip_second}
+use Rattle.std.specs.Slice.Iter.{iter_rest, chunks_exact_rest}
+use Rattle.windows.proofs.RowSteps.{summed_more, summed_all}
 use Rattle.windows.proofs.product.product_row.Goals as goal
 
-pub offset_bounds-table-k : goal.offset_bounds-table-k
-offset_bounds-table-k g c =
-    let n = length c.fill.new.self in
-    let e = ap (λ x. length c.args.left.now * x) c.fill.ensures.len in
-    omega (arith, row_end c.loop-k.k (length c.args.left.now) n c.loop-k-test.true, row_next c.loop-k.k n)
+pub loop-by-preserved : goal.loop-by-preserved
+loop-by-preserved g c =
+    let steps = c.in-Some.ensures.steps in
+    let b = c.args.b.now in
+    record {
+      size = steps.1.0 ∙ c.loop-by.invariant.size;
+      summed =
+          summed_more (g.R.Ring.meaning c.args.r.now) c.args.left.now b.cells.now b.columns (length c.loop-by.yielded) _ _ c.loop-by.into
+          c.loop-by.invariant.summed _ c.in-Some.by.now _ c.in-Some.row.now _ c.add_multiple.new.onto steps.0 steps.1.1.0
+          (steps.1.1.1 ∙ c.loop-by.invariant.size) (omega arith) c.add_multiple.ensures (length_push c.loop-by.yielded _);
+    }
 
-pub slice_bounds-add_multiple-end : goal.slice_bounds-add_multiple-end
-slice_bounds-add_multiple-end g c =
-    let n = length c.fill.new.self in
-    let e = ap (λ x. length c.args.left.now * x) c.fill.ensures.len in
-    omega (arith, row_end c.loop-k.k (length c.args.left.now) n c.loop-k-test.true)
-
-pub loop-k-preserved : goal.loop-k-preserved
-loop-k-preserved g c =
-    let n = length c.fill.new.self in
-    let k = c.loop-k.k in
-    let table = c.args.table.now in
-    let e = ap (λ x. length c.args.left.now * x) c.fill.ensures.len in
-    let w : (k + 1) * n ≤ length table = omega (arith, row_end k (length c.args.left.now) n c.loop-k-test.true) in
-    row_added (g.R.Ring.meaning c.args.r.now) c.loop-k.into c.add_multiple.new.onto c.args.left.now table k n
-    (omega arith) (omega arith) (part_length n table k w) c.loop-k.invariant c.add_multiple.ensures
+pub returns : goal.returns
+returns g c =
+    let b = c.args.b.now in
+    let end : (length (iter_rest (zip_first c.loop-by.by-iterator)) ≡ 0) ⊎ (length (chunks_exact_rest (zip_second c.loop-by.by-iterator)) < b.columns) =
+    elim c.in-None.ensures.steps [ inl (x, e) ↦ inl e.0 | inr (x, e) ↦ inr (omega (arith, e.1.0, c.loop-by.invariant.size)) ] in
+    summed_all (g.R.Ring.meaning c.args.r.now) c.args.left.now b.cells.now b.columns (length c.loop-by.yielded) _ _ c.loop-by.into
+    c.loop-by.invariant.summed (b.fits ∙ ap (λ rows. rows * b.columns) (sym c.requires.sides)) end
