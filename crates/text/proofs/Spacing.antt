@@ -1,8 +1,7 @@
 -- How a line of numbers is put together.
-use Rattle.std.proofs.Common.{◌≡◌, ℕ, List, [], ◌∷◌, ◌++◌, map, length, IfOk, string_bytes, decimal, Result, String, sym, ap, ◌∙◌, subst, append_assoc, append-nil, arith}
-use Rattle.std.specs.declared.alloc.AllocError.{AllocError}
-use Rattle.std.specs.declared.alloc.Global.{Global}
+use Rattle.std.proofs.Common.{◌≡◌, ℕ, List, Result, OnOk, [], ◌∷◌, ◌++◌, map, decimal, sym, ap, ◌∙◌, append_assoc, append-nil}
 use Rattle.std.specs.List.{flat_map}
+use Rattle.std.proofs.lemmas.Result.{on_ok_weaker}
 use Rattle.text.specs.Canonical.{line_of, spaced}
 use Rattle.text.specs.Writing.{after_blank}
 
@@ -18,14 +17,11 @@ numbers_spaced before row n ns e =
     append_assoc before (decimal n) (flat_map after_blank ns)
     ∙ ap (λ z. before ++ z) (sym (spaced_others (decimal n) ns) ∙ ap (λ xs. spaced (map decimal xs)) (sym e))
 
-pub numbers_none : (before row : List ℕ) → length row ≡ 0 → before ≡ before ++ spaced (map decimal row)
-numbers_none before [] e = sym (append-nil before)
-numbers_none before (n ∷ ns) e = absurd (let z : ⊥ = omega arith in z)
-
--- a text that is known otherwise
-pub text_is : (r : Result (String Global) AllocError) (xs ys : List ℕ) → xs ≡ ys
-    → IfOk r (λ s. string_bytes s ≡ xs) → IfOk r (λ s. string_bytes s ≡ ys)
-text_is r xs ys e h = subst (λ zs. IfOk r (λ s. string_bytes s ≡ zs)) e h
+pub numbers_pushed : {T E : Type 0} (r : Result T E) (before text after row : List ℕ) (n : ℕ) (ns : List ℕ)
+    → text ≡ before ++ decimal n → row ≡ n ∷ ns
+    → OnOk r (after ≡ text ++ flat_map after_blank ns) → OnOk r (after ≡ before ++ spaced (map decimal row))
+numbers_pushed r before text after row n ns e f h =
+    on_ok_weaker r (λ g. g ∙ (ap (λ z. z ++ flat_map after_blank ns) e ∙ numbers_spaced before row n ns f)) h
 
 -- a line feed ends the line
 pub line_ended : (before text : List ℕ) (ws : List (List ℕ)) → text ≡ before ++ spaced ws → text ++ (10 ∷ []) ≡ before ++ line_of ws

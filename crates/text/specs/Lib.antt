@@ -1,8 +1,8 @@
 -- Lines, words and numbers, by lists of bytes.
 pub mod Text
-pub mod Runs
 pub mod Lines
 pub mod Cursors
 pub mod Numbers
 pub mod Canonical
 pub mod Writing
+pub mod Faults

@@ -1,11 +1,6 @@
 -- Words that are whole numbers below 2^32, written in decimal digits.
 use Rattle.std.specs.Prelude.{ℕ, ◌+◌, ◌-◌, ◌*◌, ◌^◌, cond, ◌&&◌, List, [], ◌∷◌, length, Some, None, Option, nat_lt}
-use Rattle.std.specs.Char.{is_ascii_digit}
 use Rattle.std.specs.Str.{all_ascii_digits}
-
--- the value of a decimal digit
-abbrev pub digit : ℕ → Option ℕ
-digit b = cond (is_ascii_digit b) (Some (b - 48)) None
 
 -- the value of digits that follow those of the number n; the digit 0 is the byte 48
 abbrev pub value_after : ℕ → List ℕ → ℕ

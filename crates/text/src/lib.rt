@@ -2,9 +2,10 @@
 #![tactic(auto)]
 
 pub mod cursor;
+pub mod fault;
 pub mod lines;
 pub mod number;
-mod runs;
+pub mod stop;
 #[cfg(test)]
 mod tests;
 pub mod words;

@@ -5,14 +5,19 @@ ghost use Rattle.text.specs.Lines.{meaningful, passed_over};
 ghost use Rattle.text.specs.Text.{lines, words};
 
 use crate::cursor::Cursor;
-use crate::runs::{Run, run_length};
 use crate::words::split_word;
 
-// The next line that means something, or the number that one more line would have.
-#[derive(Clone, Copy)]
-pub enum Next<'a> {
-    Line { number: usize, text: &'a [u8] },
-    End { number: usize },
+// A line that means something.
+#[derive(Clone, Copy, Debug, PartialEq, Eq)]
+pub struct Line<'a> {
+    pub number: usize,
+    pub text: &'a [u8],
+}
+
+// No line is left: the number that one more line would have.
+#[derive(Clone, Copy, Debug, PartialEq, Eq)]
+pub struct End {
+    pub number: usize,
 }
 
 impl<'a> Cursor<'a> {
@@ -27,7 +32,7 @@ impl<'a> Cursor<'a> {
     }
 
     // Goes past the next line that means something, or to the end.
-    pub fn next_line(&mut self) -> Next<'a>
+    pub fn next_line(&mut self) -> Result<Line<'a>, End>
         ensures { Nexts (left self.old) result (left self.new) }
     {
         while let Some((text, rest)) = split_line(self.rest) {
@@ -37,10 +42,10 @@ impl<'a> Cursor<'a> {
                 line: number + 1,
             };
             if !is_passed_over(text) {
-                return Next::Line { number, text };
+                return Ok(Line { number, text });
             }
         }
-        Next::End { number: self.line }
+        Err(End { number: self.line })
     }
 }
 
@@ -51,10 +56,11 @@ fn split_line(text: &[u8]) -> Option<(&[u8], &[u8])>
     if text.is_empty() {
         return None;
     }
-    let (line, rest) = text.split_at(run_length(Run::Line, text));
-    // the last line may lack its line feed
-    let (_, after) = rest.split_at(rest.len().min(1));
-    Some((line, after))
+    match text.iter().position(|byte| *byte == b'\n') {
+        Some(end) => Some((&text[..end], &text[end + 1..])),
+        // the last line may lack its line feed
+        None => Some(text.split_at(text.len())),
+    }
 }
 
 // Whether a line has no words or is a comment.
@@ -63,6 +69,6 @@ fn is_passed_over(text: &[u8]) -> bool
 {
     match split_word(text) {
         None => true,
-        Some((word, _)) => !word.is_empty() && word[0] == b'#',
+        Some((word, _)) => word.starts_with(b"#"),
     }
 }

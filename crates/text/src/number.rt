@@ -1,18 +1,9 @@
 // A word that is a whole number below 2^32.
 ghost use Rattle.std.specs.Prelude.{◌≡◌};
-ghost use Rattle.text.specs.Numbers.{digit, number};
+ghost use Rattle.text.specs.Numbers.{number};
 
-// The value of a decimal digit.
-fn parse_digit(byte: u8) -> Option<u32>
-    ensures { result ≡ digit byte }
-{
-    if byte.is_ascii_digit() {
-        Some(u32::from(byte - b'0'))
-    } else {
-        None
-    }
-}
-
+// Digit by digit, since `str::parse` takes a sign too.
+#[tactic(auto, using(crate::proofs::Valued::stops_at_value))]
 pub fn parse_number(word: &[u8]) -> Option<u32>
     ensures { result ≡ number word.now }
 {
@@ -21,9 +12,8 @@ pub fn parse_number(word: &[u8]) -> Option<u32>
     }
     let mut value: u32 = 0;
     for byte in word {
-        let units = parse_digit(*byte)?;
-        let tens = value.checked_mul(10)?;
-        value = tens.checked_add(units)?;
+        let digit = char::from(*byte).to_digit(10)?;
+        value = value.checked_mul(10)?.checked_add(digit)?;
     }
     Some(value)
 }
