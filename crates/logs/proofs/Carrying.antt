@@ -2,7 +2,7 @@
 use Rattle.std.proofs.Common.{◌≡◌, ℕ, zero, suc, ◌<◌, ◌↔◌, List, length, Ok, Err, Result, sym, refl, ap, ◌∙◌, arith}
 use Rattle.algebra.specs.Meaning.{Meaning, OneMeaning}
 use Rattle.algebra.specs.Operations.{operations, sum, dot}
-use Rattle.algebra.specs.Outcome.{Told}
+use Rattle.logs.specs.declared.refusal.Refusal.{Refusal}
 use Rattle.algebra.specs.Vectors.{Equation, row, entries, Codes, Vector, Sound, Sounds, Satisfies, Possible}
 use Rattle.algebra.specs.Combinations.{Builds, value_sum}
 use Rattle.algebra.proofs.Sums.{sum_cong}
@@ -126,7 +126,7 @@ module _ (m k : Meaning) (laws : FieldLaws m) (one : OneMeaning m k) where
         (λ x. h.2 (sym (value_same (kept log) (made_sounds mm) ws h.1.codes) ∙ x)),
       )
 
-      offered_from : (o : Offer) (a : Result Answer Told) (ws : List ℕ) → Offered k n log o a ws → Offered m n log o a ws
+      offered_from : (o : Offer) (a : Result Answer Refusal) (ws : List ℕ) → Offered k n log o a ws → Offered m n log o a ws
       offered_from o (Err r) ws h = (ap (λ x. checked x n o) one.orders ∙ h.0, h.1)
       offered_from o (Ok a) ws h =
           let c = ap (λ x. checked x n o) one.orders ∙ h.0 in

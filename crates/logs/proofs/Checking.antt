@@ -3,7 +3,7 @@ use Rattle.std.proofs.Common.{◌≡◌, ℕ, zero, suc, ◌+◌, ◌<◌, Bool,
 use Rattle.std.proofs.lemmas.List.{get_or_append_left, get_or_push}
 use Rattle.std.proofs.lemmas.Bool.{cond-true}
 use Rattle.algebra.specs.Meaning.{Meaning}
-use Rattle.algebra.specs.Outcome.{refused}
+use Rattle.logs.specs.declared.refusal.Refusal.TheVariants as refusal
 use Rattle.algebra.specs.Outside.{first_outside}
 use Rattle.algebra.specs.Vectors.{Sound}
 use Rattle.logs.specs.Offers.{Offer, equation, unless_outside, checked}
@@ -89,7 +89,7 @@ checked_sound m n o = go (eqb (length o.coefficients) n) (eqb (length o.weights)
         more = length-append o.coefficients (o.value ∷ [])
 
     go : (b c : Bool) → eqb (length o.coefficients) n ≡ b → eqb (length o.weights) n ≡ c
-        → cond b (cond c (unless_outside (first_outside m.order 0 all)) (refused 3 [])) (refused 2 []) ≡ Ok tt
+        → cond b (cond c (unless_outside (first_outside m.order 0 all)) (Err refusal.Length)) (Err refusal.Coefficients) ≡ Ok tt
         → Sound m n (equation o) × (length o.weights ≡ n)
     go true true t u e = (
       sound (eqb-true (length o.coefficients) n t) (outside_none m.order 0 all (unless_none _ e)),

@@ -1,7 +1,7 @@
 -- What every log has: sound kept equations with a reduced table, which leave the vectors possible that the accepted ones do.
 use Rattle.std.proofs.Common.{◌≡◌, ℕ, List, ◌∷◌, length, Ok, Err, Result, refl, arith}
 use Rattle.algebra.specs.Meaning.{Meaning}
-use Rattle.algebra.specs.Outcome.{Told}
+use Rattle.logs.specs.declared.refusal.Refusal.{Refusal}
 use Rattle.algebra.specs.Vectors.{Sound, Sounds, Possible}
 use Rattle.linear.specs.Field.{FieldLaws}
 use Rattle.linear.proofs.Systems.{each_more, possible_more, possible_fewer}
@@ -18,7 +18,7 @@ module _ {m : Meaning} {n : ℕ} where
   made_log (offering md h) = md
   made_log (ranking md) = md
 
-  pub made_offered : {log : Log} {o : Offer} {a : Result Answer Told} {ws : List ℕ} → Made m n (offered o a ws ∷ log) → Offered m n log o a ws
+  pub made_offered : {log : Log} {o : Offer} {a : Result Answer Refusal} {ws : List ℕ} → Made m n (offered o a ws ∷ log) → Offered m n log o a ws
   made_offered (offering md h) = h
 
   pub made_ranked : {log : Log} {r : ℕ} → Made m n (ranked r ∷ log) → r ≡ length (kept log)
@@ -28,7 +28,7 @@ module _ {m : Meaning} {n : ℕ} where
   made_sounds opened = λ i l. absurd (omega arith)
   made_sounds (offering {log} {o} {a} {ws} md h) = go a h (made_sounds md)
     where
-      go : (a : Result Answer Told) → Offered m n log o a ws → Sounds m n (kept log) → Sounds m n (kept (offered o a ws ∷ log))
+      go : (a : Result Answer Refusal) → Offered m n log o a ws → Sounds m n (kept log) → Sounds m n (kept (offered o a ws ∷ log))
       go (Err r) h s = s
       go (Ok (Kept k)) h s = each_more (Sound m n) (kept log) (equation o) s (checked_sound m n o h.0).0
       go (Ok Implied) h s = s
@@ -44,7 +44,7 @@ module _ {m : Meaning} {n : ℕ} where
       Same : Log → Type 0
       Same log = (PossibleAfter m n log v → Possible m n (kept log) v) × (Possible m n (kept log) v → PossibleAfter m n log v)
 
-      go : (a : Result Answer Told) → Offered m n log o a ws → Same log → Same (offered o a ws ∷ log)
+      go : (a : Result Answer Refusal) → Offered m n log o a ws → Same log → Same (offered o a ws ∷ log)
       go (Err r) h ih = ih
       go (Ok (Kept k)) h ih = (
         (λ p. let t = possible_fewer m n (accepted log) (equation o) v p in possible_more m n (kept log) (equation o) v (ih.0 t.0) t.1),
@@ -62,7 +62,7 @@ module _ (m : Meaning) (laws : FieldLaws m) (n : ℕ) where
   made_tabled opened = tabled_none m laws n
   made_tabled (offering {log} {o} {a} {ws} md h) = go a h (made_tabled md)
     where
-      go : (a : Result Answer Told) → Offered m n log o a ws → Tabled m laws n (kept log) → Tabled m laws n (kept (offered o a ws ∷ log))
+      go : (a : Result Answer Refusal) → Offered m n log o a ws → Tabled m laws n (kept log) → Tabled m laws n (kept (offered o a ws ∷ log))
       go (Err r) h t = t
       go (Ok (Kept k)) h t =
           let met = h.1.2 in

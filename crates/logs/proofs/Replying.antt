@@ -3,7 +3,8 @@ use Rattle.std.proofs.Common.{◌≡◌, ℕ, ◌-◌, ◌<◌, Bool, true, fals
 use Rattle.std.proofs.lemmas.List.FromFn.{fill_by_all}
 use Rattle.std.proofs.lemmas.Bool.{cases_order, ltb-true}
 use Rattle.algebra.specs.Meaning.{Meaning}
-use Rattle.algebra.specs.Outcome.{Told, unless_refused}
+use Rattle.algebra.specs.Outcome.{unless_refused}
+use Rattle.logs.specs.declared.refusal.Refusal.{Refusal}
 use Rattle.algebra.specs.Vectors.{Equation, entries}
 use Rattle.linear.specs.Field.{FieldOn, FieldLaws}
 use Rattle.linear.specs.Table.{unit, Sat}
@@ -31,7 +32,7 @@ use Rattle.logs.proofs.Reductions.{solution_is, is_solution_lem, kernel_is, is_k
 use Rattle.logs.proofs.Spanning.{span, span_sat, sat_span}
 
 -- a check that passed
-passed : (b : Bool) (r : Result (Unit {0}) Told) (e : Told) → cond b r (Err e) ≡ Ok tt → b ≡ true
+passed : (b : Bool) (r : Result (Unit {0}) Refusal) (e : Refusal) → cond b r (Err e) ≡ Ok tt → b ≡ true
 passed true r e h = refl
 passed false r e h = absurd (err_ok h)
 
@@ -42,7 +43,7 @@ unknown_passed : (n j : ℕ) → unknown_checked n j ≡ Ok tt → j < n
 unknown_passed n j h = ltb-true j n (passed (ltb j n) (Ok tt) _ h)
 
 -- the symbol, unless the question is refused
-abbrev pub or_refused : Result (Unit {0}) Told → Symbol → Result Symbol Told
+abbrev pub or_refused : Result (Unit {0}) Refusal → Symbol → Result Symbol Refusal
 or_refused (Ok u) s = Ok s
 or_refused (Err e) s = Err e
 
@@ -174,17 +175,17 @@ module _ (m : Meaning) (laws : FieldLaws m) (n : ℕ) (log : Log) (md : Made m n
       reduction : Reduction m n (kept log)
       reduction = tabled_reduction m laws n (kept log) t (made_sounds md)
 
-      solved : (s : List ℕ) (r : Result (Unit {0}) Told) → solution_checked n (length s) ≡ r
+      solved : (s : List ℕ) (r : Result (Unit {0}) Refusal) → solution_checked n (length s) ≡ r
           → Replies m n log reduction (solution s) (wrote r (unless_refused r (solution_of m laws n (kept log) t) s))
       solved s (Ok u) e = (e, is_solution_lem m laws n log md t reduction)
       solved s (Err x) e = (e, refl)
 
-      spanned : (k : ℕ) (s : List ℕ) (r : Result (Unit {0}) Told) → kernel_checked n (length (kept log)) k (length s) ≡ r
+      spanned : (k : ℕ) (s : List ℕ) (r : Result (Unit {0}) Refusal) → kernel_checked n (length (kept log)) k (length s) ≡ r
           → Replies m n log reduction (kernel k s) (wrote r (unless_refused r (kernel_of m laws n (kept log) t k) s))
       spanned k s (Ok u) e = (e, is_kernel_lem m laws n log md t reduction k (place k (length s) e))
       spanned k s (Err x) e = (e, refl)
 
-      told : (j : ℕ) (r : Result (Unit {0}) Told) → unknown_checked n j ≡ r
+      told : (j : ℕ) (r : Result (Unit {0}) Refusal) → unknown_checked n j ≡ r
           → Replies m n log reduction (unknown j) (said (or_refused r (shown m laws n (kept log) t j).0))
       told j (Ok u) e =
           (e, shows_tells m laws n log md t reduction j (unknown_passed n j e) (shown m laws n (kept log) t j).0 (shown m laws n (kept log) t j).1)
@@ -301,7 +302,7 @@ module _ (m : Meaning) (laws : FieldLaws m) (n : ℕ) (log other : Log) (md : Ma
       go (kernel_checked n (length (kept log)) k (length s)) refl
       ∙ ap (λ r. wrote (kernel_checked n r k (length s)) (unless_refused (kernel_checked n r k (length s)) (kernel_of m laws n (kept other) u k) s)) ranks_same
     where
-      go : (r : Result (Unit {0}) Told) → kernel_checked n (length (kept log)) k (length s) ≡ r
+      go : (r : Result (Unit {0}) Refusal) → kernel_checked n (length (kept log)) k (length s) ≡ r
           → wrote r (unless_refused r (kernel_of m laws n (kept log) t k) s) ≡ wrote r (unless_refused r (kernel_of m laws n (kept other) u k) s)
       go (Ok x) e =
           ap (wrote (Ok tt))
@@ -309,7 +310,7 @@ module _ (m : Meaning) (laws : FieldLaws m) (n : ℕ) (log other : Log) (md : Ma
       go (Err x) e = refl
   reply_same (unknown j) = go (unknown_checked n j) refl
     where
-      go : (r : Result (Unit {0}) Told) → unknown_checked n j ≡ r
+      go : (r : Result (Unit {0}) Refusal) → unknown_checked n j ≡ r
           → said (or_refused r (shown m laws n (kept log) t j).0) ≡ said (or_refused r (shown m laws n (kept other) u j).0)
       go (Ok x) e =
           let a = shown m laws n (kept log) t j in

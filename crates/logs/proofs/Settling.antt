@@ -3,7 +3,7 @@ use Rattle.std.proofs.Common.{◌≡◌, ℕ, suc, ◌<◌, ◌≢◌, ◌↔◌
 use native.Mathlib.Decide.{dec_lt}
 use Rattle.algebra.specs.Meaning.{Meaning}
 use Rattle.algebra.specs.Operations.{dot}
-use Rattle.algebra.specs.Outcome.{Told}
+use Rattle.logs.specs.declared.refusal.Refusal.{Refusal}
 use Rattle.algebra.specs.Vectors.{Equation, row, entries, Sound, Sounds, Satisfies, Possible}
 use Rattle.algebra.specs.Combinations.{Builds, value_sum}
 use Rattle.algebra.proofs.Sums.{sum_cong}
@@ -103,7 +103,7 @@ module _ (m : Meaning) (laws : FieldLaws m) (n : ℕ) where
   made_independent opened = λ d h i l. absurd (omega arith)
   made_independent (offering {log} {o} {a} {ws} md h) = go a h (made_independent md)
     where
-      go : (a : Result Answer Told) → Offered m n log o a ws → IndependentAfter log → IndependentAfter (offered o a ws ∷ log)
+      go : (a : Result Answer Refusal) → Offered m n log o a ws → IndependentAfter log → IndependentAfter (offered o a ws ∷ log)
       go (Err r) h ih = ih
       go (Ok (Kept k)) h ih =
           let met = h.1.2 in
@@ -156,7 +156,7 @@ module _ (m : Meaning) (laws : FieldLaws m) (n : ℕ) where
       back Contradiction h none = refl
 
   -- an offer has one answer and one list of weights after it
-  pub log_settled : (log : Log) → Made m n log → (o : Offer) (a b : Result Answer Told) (ws us : List ℕ)
+  pub log_settled : (log : Log) → Made m n log → (o : Offer) (a b : Result Answer Refusal) (ws us : List ℕ)
       → Made m n (offered o a ws ∷ log) → Made m n (offered o b us ∷ log) → (a ≡ b) × (ws ≡ us)
   log_settled log md o a b ws us ma mb = go a b (made_offered ma) (made_offered mb)
     where
@@ -174,7 +174,7 @@ module _ (m : Meaning) (laws : FieldLaws m) (n : ℕ) where
       judged Contradiction Implied h l = absurd (h.0 some.0 some.1 (l.0 some.0 some.1))
       judged Contradiction Contradiction h l = (refl, builds_once md ws us o.coefficients h.1 l.1)
 
-      go : (a b : Result Answer Told) → Offered m n log o a ws → Offered m n log o b us → (a ≡ b) × (ws ≡ us)
+      go : (a b : Result Answer Refusal) → Offered m n log o a ws → Offered m n log o b us → (a ≡ b) × (ws ≡ us)
       go (Err r) (Err q) h l = (cc, h.1 ∙ sym l.1)
       go (Err r) (Ok y) h l = absurd (err_ok (sym h.0 ∙ l.0))
       go (Ok x) (Err q) h l = absurd (err_ok (sym l.0 ∙ h.0))

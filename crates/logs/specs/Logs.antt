@@ -1,7 +1,7 @@
 -- The logs that calls on one collection make.
 use Rattle.std.specs.Prelude.{ℕ, List, [], ◌∷◌, length, Result}
 use Rattle.algebra.specs.Meaning.{Meaning}
-use Rattle.algebra.specs.Outcome.{Told}
+use Rattle.logs.specs.declared.refusal.Refusal.{Refusal}
 use Rattle.logs.specs.declared.answer.Answer.{Answer}
 use Rattle.logs.specs.Offers.{Offer, Log, offered, ranked, kept, Offered}
 
@@ -9,5 +9,5 @@ use Rattle.logs.specs.Offers.{Offer, Log, offered, ranked, kept, Offered}
 -- is the number of kept equations
 pub data Made (m : Meaning) (n : ℕ) : Log → Type 0 where
   opened : Made m n []
-  offering : {log : Log} {o : Offer} {a : Result Answer Told} {ws : List ℕ} → Made m n log → Offered m n log o a ws → Made m n (offered o a ws ∷ log)
+  offering : {log : Log} {o : Offer} {a : Result Answer Refusal} {ws : List ℕ} → Made m n log → Offered m n log o a ws → Made m n (offered o a ws ∷ log)
   ranking : {log : Log} → Made m n log → Made m n (ranked (length (kept log)) ∷ log)

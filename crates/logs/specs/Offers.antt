@@ -1,12 +1,13 @@
 -- Offers of equations, when they are refused, the log of a collection, and how an offer is judged after a log.
 use Rattle.std.specs.Prelude.{◌≡◌, ℕ, cond, ◌≢◌, List, [], ◌∷◌, ◌++◌, length, replicate, Some, None, Ok, Err, Option, Result, ◌==◌}
 use Rattle.algebra.specs.Meaning.{Meaning}
-use Rattle.algebra.specs.Outcome.{Told, refused}
 use Rattle.algebra.specs.Outside.{first_outside}
 use Rattle.algebra.specs.Vectors.{Equation, Satisfies, Possible}
 use Rattle.algebra.specs.Combinations.{Builds, value_sum}
 use Rattle.logs.specs.declared.answer.Answer.{Answer}
 use Rattle.logs.specs.declared.answer.Answer.TheVariants.{Kept, Implied, Contradiction}
+use Rattle.logs.specs.declared.refusal.Refusal.{Refusal}
+use Rattle.logs.specs.declared.refusal.Refusal.TheVariants as refusal
 
 -- what an offer brings: coefficients, a value, and the content of the slice for weights
 pub record Offer : Type 0 where
@@ -20,34 +21,34 @@ offer coefficients value weights = record { coefficients = coefficients; value =
 abbrev pub equation : Offer → Equation
 equation o = record { coefficients = o.coefficients; value = o.value }
 
--- 4 with the position of the first number that is no code, if there is one
-abbrev pub unless_outside : Option ℕ → Result (Unit {0}) Told
+-- the first number that is no code, if there is one, by its position
+abbrev pub unless_outside : Option ℕ → Result (Unit {0}) Refusal
 unless_outside None = Ok tt
-unless_outside (Some position) = refused 4 (position ∷ [])
+unless_outside (Some position) = Err (refusal.Code position)
 
--- 2 where the coefficients are not n, then 3 where the weights are not n, then 4; else the offer passes
-abbrev pub checked : ℕ → ℕ → Offer → Result (Unit {0}) Told
+-- the coefficients have to be n, then the weights n, then all numbers codes
+abbrev pub checked : ℕ → ℕ → Offer → Result (Unit {0}) Refusal
 checked order n o =
     cond (length o.coefficients == n)
-    (cond (length o.weights == n) (unless_outside (first_outside order 0 (o.coefficients ++ (o.value ∷ [])))) (refused 3 []))
-    (refused 2 [])
+    (cond (length o.weights == n) (unless_outside (first_outside order 0 (o.coefficients ++ (o.value ∷ [])))) (Err refusal.Length))
+    (Err refusal.Coefficients)
 
 -- an offer with its answer and the weights after it, or a question for the rank with its answer
 pub data Event : Type 0 where
-  offered : Offer → Result Answer Told → List ℕ → Event
+  offered : Offer → Result Answer Refusal → List ℕ → Event
   ranked : ℕ → Event
 
 -- the calls on one collection, the newest first
 abbrev pub Log : Type 0
 Log = List Event
 
-abbrev pub when_kept : Result Answer Told → Equation → List Equation → List Equation
+abbrev pub when_kept : Result Answer Refusal → Equation → List Equation → List Equation
 when_kept (Err r) e es = es
 when_kept (Ok (Kept k)) e es = es ++ (e ∷ [])
 when_kept (Ok Implied) e es = es
 when_kept (Ok Contradiction) e es = es
 
-abbrev pub when_accepted : Result Answer Told → Equation → List Equation → List Equation
+abbrev pub when_accepted : Result Answer Refusal → Equation → List Equation → List Equation
 when_accepted (Err r) e es = es
 when_accepted (Ok (Kept k)) e es = es ++ (e ∷ [])
 when_accepted (Ok Implied) e es = es ++ (e ∷ [])
@@ -82,6 +83,6 @@ Judged m n log e Contradiction ws =
     × Builds m n (kept log) ws e.coefficients × (value_sum m ws (kept log) ≢ e.value)
 
 -- one offer whole: refused with the weights unchanged, or judged
-abbrev pub Offered : Meaning → ℕ → Log → Offer → Result Answer Told → List ℕ → Type 0
+abbrev pub Offered : Meaning → ℕ → Log → Offer → Result Answer Refusal → List ℕ → Type 0
 Offered m n log o (Err r) ws = (checked m.order n o ≡ Err r) × (ws ≡ o.weights)
 Offered m n log o (Ok a) ws = (checked m.order n o ≡ Ok tt) × Judged m n log (equation o) a ws

@@ -3,7 +3,7 @@ use Rattle.std.specs.Prelude.{◌≡◌, ℕ, ◌-◌, ◌^◌, ◌<◌, ◌≤�
 use Rattle.algebra.specs.Matrix.{tabulate}
 use Rattle.algebra.specs.Meaning.{Meaning, OneMeaning}
 use Rattle.algebra.specs.Operations.{operations, dot}
-use Rattle.algebra.specs.Outcome.{Told}
+use Rattle.logs.specs.declared.refusal.Refusal.{Refusal}
 use Rattle.algebra.specs.Vectors.{Equation, row, entries, Vector, Satisfies}
 use Rattle.algebra.specs.Combinations.{Builds, value_sum}
 use Rattle.logs.specs.declared.answer.Answer.{Answer}
@@ -65,7 +65,7 @@ pub record Promises (m : Meaning) (n : ℕ) (log : Log) : Type 0 where
   pub missed : (o : Offer) (ws : List ℕ) → Made m n (offered o (Ok Contradiction) ws ∷ log)
       → Builds m n (kept log) ws o.coefficients × (value_sum m ws (kept log) ≢ o.value)
   -- no answer to an offer is left to choice
-  pub settled : (o : Offer) (a b : Result Answer Told) (ws us : List ℕ)
+  pub settled : (o : Offer) (a b : Result Answer Refusal) (ws us : List ℕ)
       → Made m n (offered o a ws ∷ log) → Made m n (offered o b us ∷ log) → (a ≡ b) × (ws ≡ us)
   -- nor to a published question; and any other log over a field of one meaning that leaves the same vectors answers alike
   pub agreed : (k : Meaning) → OneMeaning m k → (other : Log) → Made k n other → LeaveTheSame m log k other n → AnswerAlike m log k other n

@@ -1,12 +1,13 @@
 -- What is answered after publication, by the kept equations and their reduced form.
-use Rattle.std.specs.Prelude.{◌≡◌, ℕ, ◌-◌, ◌<◌, cond, not, ◌≢◌, List, [], length, Ok, Err, Result, ◌==◌, nat_lt, slice_index}
+use Rattle.std.specs.Prelude.{◌≡◌, ℕ, ◌-◌, ◌<◌, cond, not, ◌≢◌, List, length, Ok, Err, Result, ◌==◌, nat_lt, slice_index}
 use Rattle.algebra.specs.Among.{among, member}
 use Rattle.algebra.specs.Meaning.{Meaning}
 use Rattle.algebra.specs.Operations.{operations, dot}
-use Rattle.algebra.specs.Outcome.{Told, refused}
 use Rattle.algebra.specs.Vectors.{row, entries, Vector}
 use Rattle.logs.specs.declared.answer.Symbol.{Symbol}
 use Rattle.logs.specs.declared.answer.Symbol.TheVariants.{Known, Open}
+use Rattle.logs.specs.declared.refusal.Refusal.{Refusal}
+use Rattle.logs.specs.declared.refusal.Refusal.TheVariants as refusal
 use Rattle.logs.specs.Offers.{Log, kept, PossibleAfter}
 use Rattle.logs.specs.Reduced.{Reduction}
 
@@ -47,20 +48,20 @@ pub data Question : Type 0 where
 
 -- what is answered: the result, and the content of the slice after it
 pub data Reply : Type 0 where
-  wrote : Result (Unit {0}) Told → List ℕ → Reply
-  said : Result Symbol Told → Reply
+  wrote : Result (Unit {0}) Refusal → List ℕ → Reply
+  said : Result Symbol Refusal → Reply
 
--- 3 where the slice is not n long
-abbrev pub solution_checked : ℕ → ℕ → Result (Unit {0}) Told
-solution_checked n length = cond (length == n) (Ok tt) (refused 3 [])
+-- the slice has to be n long
+abbrev pub solution_checked : ℕ → ℕ → Result (Unit {0}) Refusal
+solution_checked n length = cond (length == n) (Ok tt) (Err refusal.Length)
 
--- 5 where there are not more than k kernel vectors, then 3
-abbrev pub kernel_checked : ℕ → ℕ → ℕ → ℕ → Result (Unit {0}) Told
-kernel_checked n rank k length = cond (nat_lt k (n - rank)) (solution_checked n length) (refused 5 [])
+-- there have to be more than k kernel vectors, then the slice has to be n long
+abbrev pub kernel_checked : ℕ → ℕ → ℕ → ℕ → Result (Unit {0}) Refusal
+kernel_checked n rank k length = cond (nat_lt k (n - rank)) (solution_checked n length) (Err refusal.Kernel)
 
--- 6 where there are not more than j unknowns
-abbrev pub unknown_checked : ℕ → ℕ → Result (Unit {0}) Told
-unknown_checked n j = cond (nat_lt j n) (Ok tt) (refused 6 [])
+-- there have to be more than j unknowns
+abbrev pub unknown_checked : ℕ → ℕ → Result (Unit {0}) Refusal
+unknown_checked n j = cond (nat_lt j n) (Ok tt) (Err refusal.Unknown)
 
 -- what the published form may answer after a log, by a reduced form of the kept equations; a refusal leaves the slice
 abbrev pub Replies : (m : Meaning) (n : ℕ) (log : Log) → Reduction m n (kept log) → Question → Reply → Type 0

@@ -1,16 +1,15 @@
--- The refusals of calls on a collection: the number and the values of each.
-use Rattle.std.specs.Prelude.{ℕ, [], ◌∷◌, Some, None, Option}
-use Rattle.algebra.specs.Outcome.{Told}
+-- The refusals of calls on a collection: the number of each, and the position that it carries.
+use Rattle.std.specs.Prelude.{ℕ, Some, None, Option}
 use Rattle.logs.specs.declared.refusal.Refusal.{Refusal}
 use Rattle.logs.specs.declared.refusal.Refusal.TheVariants.{Width, Coefficients, Length, Code, Kernel, Unknown}
 
-abbrev pub told : Refusal → Told
-told Width = record { number = 1; values = [] }
-told Coefficients = record { number = 2; values = [] }
-told Length = record { number = 3; values = [] }
-told (Code position) = record { number = 4; values = position ∷ [] }
-told Kernel = record { number = 5; values = [] }
-told Unknown = record { number = 6; values = [] }
+abbrev pub number : Refusal → ℕ
+number Width = 1
+number Coefficients = 2
+number Length = 3
+number (Code p) = 4
+number Kernel = 5
+number Unknown = 6
 
 abbrev pub position : Refusal → Option ℕ
 position Width = None

@@ -1,6 +1,6 @@
 // Why a call on a collection is refused.
 ghost use Rattle.std.specs.Prelude.{◌≡◌};
-ghost use Rattle.logs.specs.Refusals.{told, position};
+ghost use Rattle.logs.specs.Refusals.{number, position};
 
 #[derive(Clone, Copy, PartialEq, Eq, Debug)]
 pub enum Refusal {
@@ -21,7 +21,7 @@ pub enum Refusal {
 impl Refusal {
     // The number that the refusal is known by.
     pub fn number(&self) -> u32
-        ensures { result ≡ (told self.now).number }
+        ensures { result ≡ number self.now }
     {
         match self {
             Refusal::Width => 1,

@@ -1,7 +1,7 @@
 -- The log that a table holds after each call.
 use Rattle.std.proofs.Common.{◌≡◌, ℕ, zero, suc, ◌+◌, ◌-◌, ◌*◌, ◌<◌, ◌≢◌, List, [], ◌∷◌, ◌++◌, length, get_or, take, set, replicate, Some, None, Ok, Err, sym, refl, ap, ◌∙◌, subst, arith, get_or-take}
 use Rattle.algebra.specs.Meaning.{Meaning}
-use Rattle.algebra.specs.Outcome.{Told}
+use Rattle.logs.specs.declared.refusal.Refusal.{Refusal}
 use Rattle.algebra.specs.Vectors.{entries, Sound}
 use Rattle.linear.specs.Field.{FieldLaws}
 use Rattle.linear.proofs.Codes.{zero_code, from_zero}
@@ -51,7 +51,7 @@ holds_opened m laws n t w c z = record {
     }
 
 -- an offer that is refused changes nothing
-pub holds_refused : (m : Meaning) (n : ℕ) (t : Table) (log : Log) (o : Offer) (x : Told) → checked m.order t.width o ≡ Err x
+pub holds_refused : (m : Meaning) (n : ℕ) (t : Table) (log : Log) (o : Offer) (x : Refusal) → checked m.order t.width o ≡ Err x
     → Holds m n log t → Holds m n (offered o (Err x) o.weights ∷ log) t
 holds_refused m n t log o x e h = record {
   width = h.width;

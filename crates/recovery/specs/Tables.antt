@@ -1,7 +1,7 @@
 -- The table of a collection, and the log that it holds.
 use Rattle.std.specs.Prelude.{◌≡◌, ℕ, ◌+◌, List, length, Ok, Err, Result, slice_set}
 use Rattle.algebra.specs.Meaning.{Meaning}
-use Rattle.algebra.specs.Outcome.{Told}
+use Rattle.logs.specs.declared.refusal.Refusal.{Refusal}
 use Rattle.logs.specs.Logs.{Made}
 use Rattle.logs.specs.Offers.{Log, kept}
 use Rattle.recovery.specs.declared.table.Table.{Table}
@@ -23,6 +23,6 @@ pub record Keeps (m : Meaning) (q : ℕ) (left divided : List ℕ) (before after
   pub places : Placed m before.width q divided before.slots after.slots
 
 -- whether a call answered or refused, and what it refused
-abbrev pub verdict : {A : Type 0} → Result A Told → Result (Unit {0}) Told
+abbrev pub verdict : {A : Type 0} → Result A Refusal → Result (Unit {0}) Refusal
 verdict (Ok a) = Ok tt
 verdict (Err r) = Err r

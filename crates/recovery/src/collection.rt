@@ -1,8 +1,6 @@
 // Collecting equations: opening, offering, the rank, and publication.
 ghost use Rattle.std.specs.Prelude.{◌≡◌, ℕ, ◌+◌, ◌*◌, ◌<◌, [], ◌∷◌, length, Ok, Err, ◌≢◌};
-ghost use Rattle.algebra.specs.Outcome.{Told, outcome};
 ghost use Rattle.logs.specs.Offers.{checked, offer, Log, offered, ranked, kept};
-ghost use Rattle.logs.specs.Refusals.{told};
 ghost use Rattle.recovery.specs.Tables.{Holds, Keeps, verdict};
 
 use crate::elimination::{divide, extended, first_nonzero, place, reduce, write_negatives};
@@ -30,7 +28,7 @@ fn check<R: Ring>(
     value: u32,
     weights: &[u32],
 ) -> Result<(), Refusal>
-    ensures { outcome told result ≡ checked (R.Ring.meaning r.now).order n (offer coefficients.now value weights.now) }
+    ensures { result ≡ checked (R.Ring.meaning r.now).order n (offer coefficients.now value weights.now) }
 {
     if coefficients.len() != n {
         return Err(Refusal::Coefficients);
@@ -123,10 +121,10 @@ impl<F: Field + Drop> Collection<F> {
     ) -> Result<Answer, Refusal>
         ensures field { self.new.field ≡ self.old.field }
         ensures width { self.new.table.width ≡ self.old.table.width }
-        ensures answer { verdict (outcome told result) ≡ checked (F.Ring.meaning self.old.field).order self.old.table.width (offer coefficients.now value weights.old) }
-        ensures refused { (x : Told) → outcome told result ≡ Err x → (self.new ≡ self.old) × (weights.new ≡ weights.old) }
+        ensures answer { verdict result ≡ checked (F.Ring.meaning self.old.field).order self.old.table.width (offer coefficients.now value weights.old) }
+        ensures refused { (x : Refusal) → result ≡ Err x → (self.new ≡ self.old) × (weights.new ≡ weights.old) }
         ensures unkept { ((k : ℕ) → result ≢ Ok (Answer.Kept k)) → self.new ≡ self.old }
-        ensures log { (n : ℕ) (log : Log) → Holds (F.Ring.meaning self.old.field) n log self.old.table → Holds (F.Ring.meaning self.old.field) n (offered (offer coefficients.now value weights.old) (outcome told result) weights.new ∷ log) self.new.table }
+        ensures log { (n : ℕ) (log : Log) → Holds (F.Ring.meaning self.old.field) n log self.old.table → Holds (F.Ring.meaning self.old.field) n (offered (offer coefficients.now value weights.old) result weights.new ∷ log) self.new.table }
     {
         check(&self.field, self.table.width, coefficients, value, weights)?;
         Ok(judge(&self.field, &mut self.table, coefficients, value, weights))

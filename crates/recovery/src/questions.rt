@@ -1,10 +1,8 @@
 // The questions that a published collection answers.
 ghost use Rattle.std.specs.Prelude.{◌≡◌, ℕ, length, Err};
-ghost use Rattle.algebra.specs.Outcome.{Told, outcome};
 ghost use Rattle.logs.specs.Offers.{Log};
 ghost use Rattle.logs.specs.Questions.{solution_checked, kernel_checked, unknown_checked, wrote, said, Answers};
 ghost use Rattle.logs.specs.Questions.{solution as about_solution, kernel as about_kernel, unknown as about_unknown};
-ghost use Rattle.logs.specs.Refusals.{told};
 ghost use Rattle.recovery.specs.Tables.{Holds, verdict};
 
 use crate::columns::{first_moving, free_column, write_column, write_kernel};
@@ -17,9 +15,9 @@ use logs::refusal::Refusal;
 impl<F: Field + Drop> Published<F> {
     // Writes the possible vector whose free unknowns are 0. Refuses 3 where the slice is not as long as there are unknowns.
     pub fn solution(&self, out: &mut [u32]) -> Result<(), Refusal>
-        ensures answer { outcome told result ≡ solution_checked self.now.table.width (length out.old) }
-        ensures refused { (x : Told) → outcome told result ≡ Err x → out.new ≡ out.old }
-        ensures log { (n : ℕ) (log : Log) → Holds (F.Ring.meaning self.now.field) n log self.now.table → Answers (F.Ring.meaning self.now.field) n log (about_solution out.old) (wrote (outcome told result) out.new) }
+        ensures answer { result ≡ solution_checked self.now.table.width (length out.old) }
+        ensures refused { (x : Refusal) → result ≡ Err x → out.new ≡ out.old }
+        ensures log { (n : ℕ) (log : Log) → Holds (F.Ring.meaning self.now.field) n log self.now.table → Answers (F.Ring.meaning self.now.field) n log (about_solution out.old) (wrote result out.new) }
     {
         if out.len() != self.table.width {
             return Err(Refusal::Length);
@@ -31,9 +29,9 @@ impl<F: Field + Drop> Published<F> {
     // Writes kernel vector k: 1 at the k-th free unknown, 0 at the others, and 0 in every equation. Refuses 5 where there are not
     // so many, then 3.
     pub fn kernel(&self, k: usize, out: &mut [u32]) -> Result<(), Refusal>
-        ensures answer { outcome told result ≡ kernel_checked self.now.table.width self.now.table.count k (length out.old) }
-        ensures refused { (x : Told) → outcome told result ≡ Err x → out.new ≡ out.old }
-        ensures log { (n : ℕ) (log : Log) → Holds (F.Ring.meaning self.now.field) n log self.now.table → Answers (F.Ring.meaning self.now.field) n log (about_kernel k out.old) (wrote (outcome told result) out.new) }
+        ensures answer { result ≡ kernel_checked self.now.table.width self.now.table.count k (length out.old) }
+        ensures refused { (x : Refusal) → result ≡ Err x → out.new ≡ out.old }
+        ensures log { (n : ℕ) (log : Log) → Holds (F.Ring.meaning self.now.field) n log self.now.table → Answers (F.Ring.meaning self.now.field) n log (about_kernel k out.old) (wrote result out.new) }
     {
         let n = self.table.width;
         if k >= n - self.table.count {
@@ -50,8 +48,8 @@ impl<F: Field + Drop> Published<F> {
     // What is known of unknown j: the code that all possible vectors have there, or the first kernel vector that moves it. Refuses
     // 6 where there are not so many unknowns.
     pub fn unknown(&self, j: usize) -> Result<Symbol, Refusal>
-        ensures answer { verdict (outcome told result) ≡ unknown_checked self.now.table.width j }
-        ensures log { (n : ℕ) (log : Log) → Holds (F.Ring.meaning self.now.field) n log self.now.table → Answers (F.Ring.meaning self.now.field) n log (about_unknown j) (said (outcome told result)) }
+        ensures answer { verdict result ≡ unknown_checked self.now.table.width j }
+        ensures log { (n : ℕ) (log : Log) → Holds (F.Ring.meaning self.now.field) n log self.now.table → Answers (F.Ring.meaning self.now.field) n log (about_unknown j) (said result) }
     {
         let n = self.table.width;
         if j >= n {

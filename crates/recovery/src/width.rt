@@ -1,6 +1,5 @@
 // The number of unknowns of a collection.
 ghost use Rattle.std.specs.Prelude.{◌≡◌, true, false, [], MatchResult};
-ghost use Rattle.logs.specs.Refusals.{told};
 ghost use Rattle.recovery.specs.Widths.{is_width};
 
 use crate::table::UNKNOWNS;
@@ -16,7 +15,7 @@ pub struct Width {
 impl Width {
     // Refuses 1 where the number is not from 1 to 64.
     pub fn new(unknowns: usize) -> Result<Width, Refusal>
-        ensures { MatchResult result (λ w. (is_width unknowns ≡ true) × (w.unknowns ≡ unknowns)) (λ x. (is_width unknowns ≡ false) × (told x ≡ record { number = 1; values = [] })) }
+        ensures { MatchResult result (λ w. (is_width unknowns ≡ true) × (w.unknowns ≡ unknowns)) (λ x. (is_width unknowns ≡ false) × (x ≡ Refusal.Width)) }
     {
         if unknowns < 1 || unknowns > UNKNOWNS {
             return Err(Refusal::Width);

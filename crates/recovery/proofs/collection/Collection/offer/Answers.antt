@@ -1,7 +1,6 @@
 use Rattle.std.proofs.Common.{ℕ, ◌∷◌, Ok, sym, refl, ap, subst}
 use Rattle.std.proofs.lemmas.Result.{err_from_is_err_and}
 use Rattle.logs.specs.Offers.{offer, offered}
-use Rattle.logs.specs.Refusals.{told}
 use Rattle.logs.proofs.Checking.{err_ok}
 use Rattle.recovery.specs.Tables.{Holds}
 use Rattle.recovery.proofs.Holding.{holds_refused}
@@ -19,7 +18,7 @@ returns-in_err-check g c =
       answer = sym e;
       refused = λ x k. (refl, refl);
       unkept = λ no. refl;
-      log = λ n log h. holds_refused m n c.args.self.now.table log o (told c.in_err-check.field-0.0) e h;
+      log = λ n log h. holds_refused m n c.args.self.now.table log o c.in_err-check.field-0.0 e h;
     })
 
 pub returns : goal.returns
