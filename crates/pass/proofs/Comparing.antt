@@ -1,9 +1,11 @@
 -- What the questions asked by a comparison tell of all questions.
-use Rattle.std.proofs.Common.{◌≡◌, ℕ, ◌-◌, ◌<◌, ◌≤◌, Bool, true, false, cond, eqb, ltb, ◌⊎◌, List, [], length, replicate, Some, None, Ok, Option, Result, sym, refl, ap, ◌∙◌, inl, inr, arith}
+use Rattle.std.proofs.Common.{◌≡◌, ℕ, ◌-◌, ◌<◌, ◌≤◌, Bool, true, false, cond, eqb, ltb, ◌⊎◌, List, [], length, replicate, Some, None, Ok, Option, Result, sym, refl, ap, ◌∙◌, inl, inr, arith, Err}
 use Rattle.std.proofs.lemmas.List.{length-replicate}
 use Rattle.std.proofs.lemmas.Bool.{cond-true, cond-false, eq-eqb, le-ltb, cases_lt}
 use Rattle.algebra.specs.Meaning.{Meaning}
-use Rattle.algebra.specs.Outcome.{Told, refused, unless_refused}
+use Rattle.algebra.specs.Outcome.{unless_refused}
+use Rattle.logs.specs.declared.refusal.Refusal.{Refusal}
+use Rattle.logs.specs.declared.refusal.Refusal.TheVariants as refusal
 use Rattle.linear.specs.Field.{FieldLaws}
 use Rattle.linear.proofs.Tables.{Tabled}
 use Rattle.logs.specs.Offers.{Log, kept}
@@ -23,7 +25,7 @@ use Rattle.pass.specs.Questions.{questioned}
 use Rattle.pass.specs.Comparisons.{Alike, First, Compared}
 
 -- the result and the content that a reply tells
-abbrev result : Reply → Result (Unit {0}) Told
+abbrev result : Reply → Result (Unit {0}) Refusal
 result (wrote r x) = r
 result (said r) = Ok tt
 
@@ -32,7 +34,7 @@ content (wrote r x) = x
 content (said r) = []
 
 -- the reply to a question whose slice is x: u is written, where the check passes
-abbrev wrote_by : Result (Unit {0}) Told → List ℕ → List ℕ → Reply
+abbrev wrote_by : Result (Unit {0}) Refusal → List ℕ → List ℕ → Reply
 wrote_by r u x = wrote r (unless_refused r u x)
 
 module _ (n : ℕ) where
@@ -51,7 +53,7 @@ module _ (n : ℕ) where
 
   -- where b tells whether there is such a kernel vector
   abbrev kernel_by : Bool → List ℕ → List ℕ → Reply
-  kernel_by b u x = wrote_by (cond b (solution_checked n (length x)) (refused 5 [])) u x
+  kernel_by b u x = wrote_by (cond b (solution_checked n (length x)) (Err refusal.Kernel)) u x
 
   kernel_every : (b d : Bool) (u v x : List ℕ) → kernel_by b u zeros ≡ kernel_by d v zeros → kernel_by b u x ≡ kernel_by d v x
   kernel_every true true u v x e = solution_every u v x e
@@ -63,7 +65,7 @@ module _ (n : ℕ) where
   kernel_past : (rank i : ℕ) → n ≤ i → ltb i (n - rank) ≡ false
   kernel_past rank i l = le-ltb i (n - rank) (omega arith)
 
-  unknown_past : (j : ℕ) → n ≤ j → unknown_checked n j ≡ refused 6 []
+  unknown_past : (j : ℕ) → n ≤ j → unknown_checked n j ≡ Err refusal.Unknown
   unknown_past j l = cond-false (ltb j n) _ _ (le-ltb j n l)
 
 module _ (m k : Meaning) (lm : FieldLaws m) (lk : FieldLaws k) (n : ℕ) (s t : Table) where

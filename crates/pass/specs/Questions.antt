@@ -1,11 +1,9 @@
 -- Questions and replies as the logs have them.
 use Rattle.std.specs.Prelude.{ℕ, replicate, vec_items}
 use Rattle.algebra.specs.Meaning.{Meaning}
-use Rattle.algebra.specs.Outcome.{outcome}
 use Rattle.logs.specs.Offers.{Log}
 use Rattle.logs.specs.Questions.{solution, kernel, unknown, wrote, said, Answers}
 use Rattle.logs.specs.Questions.{Question as LogQuestion, Reply as LogReply}
-use Rattle.logs.specs.Refusals.{told}
 use Rattle.recovery.specs.declared.table.Table.{Table}
 use Rattle.recovery.specs.Tables.{Holds}
 use Rattle.pass.specs.declared.asking.Question.{Question}
@@ -20,8 +18,8 @@ questioned n (Kernel k) = kernel k (replicate n 0)
 questioned n (Unknown j) = unknown j
 
 abbrev pub replied : Reply → LogReply
-replied (Wrote result content) = wrote (outcome told result) (vec_items content)
-replied (Said result) = said (outcome told result)
+replied (Wrote result content) = wrote result (vec_items content)
+replied (Said result) = said result
 
 -- the reply is an answer, after each log that the table holds
 abbrev pub Replied : Meaning → Table → LogQuestion → Reply → Type 0

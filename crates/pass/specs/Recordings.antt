@@ -1,11 +1,10 @@
 -- Calls and events as data, and what a recording of them has.
 use Rattle.std.specs.Prelude.{◌≡◌, ℕ, true, false, List, [], ◌∷◌, ◌++◌, map, reverse, vec_items}
 use Rattle.algebra.specs.Meaning.{Meaning}
-use Rattle.algebra.specs.Outcome.{outcome}
 use Rattle.logs.specs.Offers.{Offer, offer, Log, offered, ranked}
 use Rattle.logs.specs.Offers.{Event as LogEvent}
 use Rattle.logs.specs.Promises.{Promises}
-use Rattle.logs.specs.Refusals.{told}
+use Rattle.logs.specs.declared.refusal.Refusal.TheVariants as refusal
 use Rattle.recovery.specs.declared.table.Table.{Table}
 use Rattle.recovery.specs.Tables.{Holds}
 use Rattle.recovery.specs.Widths.{is_width}
@@ -37,7 +36,7 @@ asked_in (e ∷ log) = asked_in log ++ (asked_by e ∷ [])
 -- an event as the log has it
 abbrev pub logged : Event → LogEvent
 logged (Offered coefficients value before answer weights) =
-    offered (offer (vec_items coefficients) value (vec_items before)) (outcome told answer) (vec_items weights)
+    offered (offer (vec_items coefficients) value (vec_items before)) answer (vec_items weights)
 logged (Ranked r) = ranked r
 
 -- the log of these events, which stand oldest first
@@ -63,5 +62,5 @@ pub record Recorded (m : Meaning) (n : ℕ) (calls : List Call) (events : List E
 
 -- nothing is recorded: 1 where the number of unknowns is no width; else memory ran out
 abbrev pub Stopped : ℕ → Stop → Type 0
-Stopped n (Refused r) = (is_width n ≡ false) × (told r ≡ record { number = 1; values = [] })
+Stopped n (Refused r) = (is_width n ≡ false) × (r ≡ refusal.Width)
 Stopped n (OutOfMemory e) = is_width n ≡ true

@@ -4,7 +4,6 @@ use Rattle.std.proofs.lemmas.List.{drop_all, at_drop_more}
 use Rattle.std.proofs.lemmas.Bool.{false≢true}
 use Rattle.std.proofs.lemmas.Bool.Decides.{Decides-like, Decides-at, Decides-and}
 use Rattle.algebra.specs.Meaning.{Meaning}
-use Rattle.algebra.specs.Outcome.{Told, outcome}
 use Rattle.linear.specs.Field.{FieldLaws}
 use Rattle.logs.specs.declared.answer.Answer.{Answer}
 use Rattle.logs.specs.declared.answer.Symbol.{Symbol}
@@ -12,7 +11,6 @@ use Rattle.logs.specs.declared.refusal.Refusal.{Refusal}
 use Rattle.logs.specs.Offers.{offer, Log, offered}
 use Rattle.logs.specs.Logs.{Made}
 use Rattle.logs.specs.Questions.{Reply, wrote, said, Answers}
-use Rattle.logs.specs.Refusals.{told}
 use Rattle.logs.proofs.Checking.{err_ok}
 use Rattle.logs.proofs.Histories.{made_log}
 use Rattle.logs.proofs.Settling.{log_settled}
@@ -25,34 +23,22 @@ use Rattle.runs.specs.declared.run.Asked.{Asked}
 use Rattle.runs.specs.Runs.{event, log_after, question, reply, Replied, Runs}
 use Rattle.runs.specs.Matching.{OffersMatch, RepliesMatch}
 
--- whether a result is an answer, and whether its outcome is
-pub outcome_decides : {A : Type 0} (r : Result A Refusal) (a : A) (b : Bool) → Decides b (r ≡ Ok a) → Decides b (outcome told r ≡ Ok a)
-outcome_decides {A} r a b = Decides-like b (to r) (from r)
-  where
-    to : (r : Result A Refusal) → r ≡ Ok a → outcome told r ≡ Ok a
-    to (Ok x) e = cc
-    to (Err x) e = absurd (err_ok e)
-
-    from : (r : Result A Refusal) → outcome told r ≡ Ok a → r ≡ Ok a
-    from (Ok x) e = cc
-    from (Err x) e = absurd (err_ok e)
-
 -- whether what is said, or written, is as expected
-pub said_decides : (r : Result Symbol Refusal) (s : Symbol) (b : Bool) → Decides b (r ≡ Ok s) → Decides b (said (outcome told r) ≡ said (Ok s))
-said_decides r s b d = Decides-like b (ap said) (λ e. cc) (outcome_decides r s b d)
+pub said_decides : (r : Result Symbol Refusal) (s : Symbol) (b : Bool) → Decides b (r ≡ Ok s) → Decides b (said r ≡ said (Ok s))
+said_decides r s b d = Decides-like b (ap said) (λ e. cc) d
 
 pub wrote_decides : (r : Result (Unit {0}) Refusal) (out v : List ℕ) (ok same : Bool) → ok ≡ is_ok r → Decides same (out ≡ v)
-    → Decides (ok && same) (wrote (outcome told r) out ≡ wrote (Ok tt) v)
+    → Decides (ok && same) (wrote r out ≡ wrote (Ok tt) v)
 wrote_decides r out v ok same e d =
     Decides-like (ok && same) (λ p. ap₂ wrote p.0 p.1) (λ p. ((cc), (cc))) (Decides-and ok same (Decides-at ok (is_ok r) e (answered r)) d)
   where
-    answered : (r : Result (Unit {0}) Refusal) → Decides (is_ok r) (outcome told r ≡ Ok tt)
+    answered : (r : Result (Unit {0}) Refusal) → Decides (is_ok r) (r ≡ Ok tt)
     answered (Ok u) = ((λ e. refl), (λ e. refl))
     answered (Err x) = ((λ e. absurd (false≢true e)), (λ e. absurd (err_ok e)))
 
 -- one offer, and one question
 module _ (m : Meaning) (laws : FieldLaws m) (n : ℕ) where
-  pub offer_matched : (s : Step n) (before after : Table) (a : Result Answer Told) (ws : List ℕ) (r : Bool)
+  pub offer_matched : (s : Step n) (before after : Table) (a : Result Answer Refusal) (ws : List ℕ) (r : Bool)
       → ((log : Log) → Holds m n log before → Holds m n (offered (offer s.coefficients s.value (replicate n 0)) a ws ∷ log) after)
       → Decides r ((a ≡ Ok s.answer) × (ws ≡ s.weights)) → OffersMatch m n (s ∷ []) before r after
   offer_matched s before after a ws true step d = λ log h.

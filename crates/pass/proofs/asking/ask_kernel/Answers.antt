@@ -1,9 +1,7 @@
 -- The slice that is lent holds zeros, and what it holds after the call is what was written.
 use Rattle.std.proofs.Common.{◌≡◌, length, sym, ap, ◌∙◌, arith}
 use Rattle.std.proofs.lemmas.List.{with_items_is}
-use Rattle.algebra.specs.Outcome.{outcome}
 use Rattle.logs.specs.Questions.{kernel, wrote}
-use Rattle.logs.specs.Refusals.{told}
 use Rattle.pass.proofs.Answering.{answered}
 use Rattle.pass.proofs.asking.ask_kernel.Goals as goal
 
@@ -14,5 +12,5 @@ returns g c =
     omega (arith, c.kernel-result.auto.out, c.deref_mut.ensures.len) in
     let written = with_items_is c.in_ok-content.content c.kernel-result.new.out full in
     λ n log h.
-    answered _ n log _ _ _ _ (ap (kernel c.args.k) zeros) (ap (wrote (outcome told c.kernel-result.result)) (sym written))
+    answered _ n log _ _ _ _ (ap (kernel c.args.k) zeros) (ap (wrote c.kernel-result.result) (sym written))
     (c.kernel-result.ensures.log n log h)

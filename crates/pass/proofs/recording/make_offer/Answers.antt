@@ -2,9 +2,7 @@
 use Rattle.std.proofs.Common.{◌≡◌, ◌∷◌, length, vec_items, sym, ap, ◌∙◌, subst, arith}
 use Rattle.std.specs.List.{each_same}
 use Rattle.std.proofs.lemmas.List.{with_items_is}
-use Rattle.algebra.specs.Outcome.{outcome}
 use Rattle.logs.specs.Offers.{offer, offered}
-use Rattle.logs.specs.Refusals.{told}
 use Rattle.recovery.specs.Tables.{Holds}
 use Rattle.pass.specs.Recordings.{to_take}
 use Rattle.pass.proofs.recording.make_offer.Goals as goal
@@ -14,7 +12,7 @@ returns g c =
     let m = g.F.Ring.meaning c.args.collection.now.field in
     let cs = vec_items c.args.coefficients in
     let v = c.args.value in
-    let a = outcome told c.offer-answer.result in
+    let a = c.offer-answer.result in
     let same : vec_items c.in_ok-before.before ≡ vec_items c.args.weights = each_same _ _ c.in_ok-before.ensures.cases.0 in
     let full : length c.offer-answer.new.weights ≡ c.args.weights.len =
     omega (arith, c.offer-answer.auto.weights, c.deref_mut.ensures.len) in

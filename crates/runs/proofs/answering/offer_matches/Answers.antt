@@ -1,8 +1,6 @@
 use Rattle.std.proofs.lemmas.Bool.Decides.{Decides-and}
-use Rattle.algebra.specs.Outcome.{outcome}
 use Rattle.linear.specs.Field.{FieldLaws}
-use Rattle.logs.specs.Refusals.{told}
-use Rattle.runs.proofs.Matching.{outcome_decides, offer_matched}
+use Rattle.runs.proofs.Matching.{offer_matched}
 use Rattle.runs.proofs.answering.offer_matches.Goals as goal
 
 pub returns : goal.returns
@@ -15,8 +13,8 @@ returns g c =
     record {
       field = offered.ensures.field;
       matched =
-          offer_matched m laws g.row.N s c.args.collection.now.table offered.new.self.table (outcome told offered.result) offered.new.weights
+          offer_matched m laws g.row.N s c.args.collection.now.table offered.new.self.table offered.result offered.new.weights
           _ (offered.ensures.log g.row.N)
           (Decides-and c.is_answer.result c.is_vector.result
-          (outcome_decides offered.result s.answer c.is_answer.result c.is_answer.ensures) c.is_vector.ensures);
+          c.is_answer.ensures c.is_vector.ensures);
     }

@@ -1,8 +1,6 @@
 use Rattle.std.proofs.Common.{◌&&◌}
-use Rattle.algebra.specs.Outcome.{outcome}
 use Rattle.linear.specs.Field.{FieldLaws}
 use Rattle.logs.specs.Questions.{wrote, said}
-use Rattle.logs.specs.Refusals.{told}
 use Rattle.runs.specs.declared.run.Asked.TheVariants.{Solution, Kernel, Unknown}
 use Rattle.runs.proofs.Matching.{said_decides, wrote_decides, reply_matched}
 use Rattle.runs.proofs.answering.reply_matches.Goals as goal
@@ -17,7 +15,7 @@ returns-in-Solution g c =
     let found = c.solution in
     let ok = c.is_ok in
     let same = c.is_vector in
-    reply_matched _ laws g.row.N c.args.asked (Solution v) c.in-Solution.is p.table (wrote (outcome told found.result) found.new.out)
+    reply_matched _ laws g.row.N c.args.asked (Solution v) c.in-Solution.is p.table (wrote found.result found.new.out)
     (ok.result && same.result) (found.ensures.log g.row.N)
     (wrote_decides found.result found.new.out v ok.result same.result ok.ensures.value same.ensures)
 
@@ -32,7 +30,7 @@ returns-in-Kernel g c =
     let found = c.kernel in
     let ok = c.is_ok-in-Kernel in
     let same = c.is_vector-in-Kernel in
-    reply_matched _ laws g.row.N c.args.asked (Kernel k v) c.in-Kernel.is p.table (wrote (outcome told found.result) found.new.out)
+    reply_matched _ laws g.row.N c.args.asked (Kernel k v) c.in-Kernel.is p.table (wrote found.result found.new.out)
     (ok.result && same.result) (found.ensures.log g.row.N)
     (wrote_decides found.result found.new.out v ok.result same.result ok.ensures.value same.ensures)
 
@@ -44,5 +42,5 @@ returns-in-Unknown g c =
     in
     let s = c.in-Unknown.symbol in
     let found = c.unknown in
-    reply_matched _ laws g.row.N c.args.asked (Unknown c.in-Unknown.j s) c.in-Unknown.is p.table (said (outcome told found.result))
+    reply_matched _ laws g.row.N c.args.asked (Unknown c.in-Unknown.j s) c.in-Unknown.is p.table (said found.result)
     c.is_symbol.result (found.ensures.log g.row.N) (said_decides found.result s c.is_symbol.result c.is_symbol.ensures)
