@@ -1,6 +1,9 @@
 // Why a call on a collection is refused.
-ghost use Rattle.std.specs.Prelude.{◌≡◌};
+ghost use Rattle.std.specs.Prelude.{◌≡◌, Some};
 ghost use Rattle.logs.specs.Refusals.{number, position};
+ghost use Rattle.logs.specs.Texts.{refusal_text};
+
+use std::fmt;
 
 #[derive(Clone, Copy, PartialEq, Eq, Debug)]
 pub enum Refusal {
@@ -40,6 +43,18 @@ impl Refusal {
         match self {
             Refusal::Code { position } => Some(*position),
             _ => None,
+        }
+    }
+}
+
+impl fmt::Display for Refusal {
+    ghost output = { λ r. Some (refusal_text r) };
+
+    fn fmt<W: fmt::Write>(&self, f: &mut fmt::Formatter<W>) -> fmt::Result {
+        let number = self.number();
+        match self.position() {
+            Some(position) => write!(f, "refused {number} position {position}"),
+            None => write!(f, "refused {number}"),
         }
     }
 }
