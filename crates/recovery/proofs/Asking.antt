@@ -3,6 +3,8 @@ use Rattle.std.proofs.Common.{◌≡◌, ℕ, ◌+◌, ◌-◌, ◌<◌, eqb, lt
 use native.Mathlib.Decide.{ℕ_discrete}
 use Rattle.std.proofs.lemmas.List.FromFn.{fill_by_all}
 use Rattle.std.proofs.lemmas.Bool.{cond-true, eq-eqb, lt-ltb}
+use Rattle.std.proofs.lemmas.Option.{get_or_from_slice_get, slice_get-get_or}
+use Rattle.std.specs.List.{slice_get}
 use Rattle.algebra.specs.Meaning.{Meaning}
 use Rattle.algebra.specs.Vectors.{entries}
 use Rattle.linear.specs.Field.{FieldOn, FieldLaws}
@@ -15,6 +17,7 @@ use Rattle.logs.specs.declared.answer.Symbol.TheVariants.{Known, Open}
 use Rattle.logs.specs.Offers.{Log, kept}
 use Rattle.logs.specs.Questions.{solution, kernel, unknown, wrote, said, unknown_checked, Answers, Solution, Kernel}
 use Rattle.logs.specs.Reduced.{Reduction}
+use Rattle.logs.proofs.Checking.{some_none}
 use Rattle.logs.proofs.Histories.{made_tabled}
 use Rattle.logs.proofs.Reductions.{free_of, free_column, kern_of, free_many, free_column_lem, kern_here, is_solution_lem, is_kernel_lem}
 use Rattle.logs.proofs.Replying.{shows_tells}
@@ -64,7 +67,7 @@ module _ (m : Meaning) (laws : FieldLaws m) (n : ℕ) (log : Log) (t : Table) (h
   frees = ap (λ fs. length fs + length (kept log)) free_same ∙ free_many m laws n (kept log) T
 
   -- there are as many free columns as kernel vectors
-  pub asked_many : (k : ℕ) → k < t.width - t.count → k < length (free_in t.slots t.width)
+  asked_many : (k : ℕ) → k < t.width - t.count → k < length (free_in t.slots t.width)
   asked_many k l =
       subst (λ x. k < length (free_in slots x)) (sym h.width)
       (let a = frees in let b = h.count in let w = h.width in omega arith)
@@ -125,13 +128,18 @@ module _ (m : Meaning) (laws : FieldLaws m) (n : ℕ) (log : Log) (t : Table) (h
             row_number j f lj f_inside ∙ ap (λ x. x.0) (from_negative Fd (T.row_of j f) (sym (kern_other j (λ e. other (sym e))) ∙ z)),
           )
 
-  pub asked_kernel : (k : ℕ) (out after : List ℕ) → k < t.width - t.count → length out ≡ t.width → length after ≡ length out
-      → NegativeColumn m.negative t.slots (get_or (free_in t.slots t.width) k 0) after → Answers m n log (kernel k out) (wrote (Ok tt) after)
-  asked_kernel k out after l lo la c =
+  pub asked_column : (k : ℕ) → k < t.width - t.count → slice_get (free_in t.slots t.width) k ≡ None → ⊥
+  asked_column k l e = some_none (sym (slice_get-get_or (free_in t.slots t.width) k 0 (asked_many k l)) ∙ e)
+
+  pub asked_kernel : (k c : ℕ) (out after : List ℕ) → k < t.width - t.count → length out ≡ t.width → length after ≡ length out
+      → slice_get (free_in t.slots t.width) k ≡ Some c → NegativeColumn m.negative t.slots c after → Answers m n log (kernel k out) (wrote (Ok tt) after)
+  asked_kernel k c out after l lo la e column =
       let w = h.width in
       let b = h.count in
       let lk : k < length (free_in slots n) = subst (λ x. k < length (free_in slots x)) w (asked_many k l) in
-      let col = subst (λ x. NegativeColumn m.negative slots (get_or (free_in slots x) k 0) after) w c in (
+      let e : c ≡ get_or (free_in slots n) k 0 =
+      sym (get_or_from_slice_get (free_in t.slots t.width) k c 0 e) ∙ ap (λ x. get_or (free_in slots x) k 0) w in
+      let col = subst (λ x. NegativeColumn m.negative slots x after) e column in (
         form,
         (
           cond-true (ltb k (n - length (kept log))) _ _ (lt-ltb k (n - length (kept log)) (omega arith))

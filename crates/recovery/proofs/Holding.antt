@@ -1,5 +1,5 @@
 -- The log that a table holds after each call.
-use Rattle.std.proofs.Common.{◌≡◌, ℕ, zero, suc, ◌+◌, ◌-◌, ◌*◌, ◌<◌, ◌≢◌, List, [], ◌∷◌, ◌++◌, length, get_or, take, set, replicate, Some, None, Ok, Err, sym, refl, ap, ◌∙◌, subst, arith, get_or-take}
+use Rattle.std.proofs.Common.{◌≡◌, ℕ, zero, suc, ◌+◌, ◌-◌, ◌*◌, ◌<◌, ◌≢◌, List, [], ◌∷◌, ◌++◌, length, get_or, take, drop, set, replicate, Some, None, Ok, Err, sym, refl, ap, ◌∙◌, subst, arith, get_or-take, get_or-drop}
 use Rattle.algebra.specs.Meaning.{Meaning}
 use Rattle.logs.specs.declared.refusal.Refusal.{Refusal}
 use Rattle.algebra.specs.Vectors.{entries, Sound}
@@ -75,12 +75,12 @@ holds_ranked m n t log h = (
 
 -- the front of a row of cells, which shows an equation on n unknowns with its value and n weights
 abbrev pub front : ℕ → List ℕ → List ℕ
-front n cells = take (2 * n + 1 - 0) cells
+front n cells = take (2 * n + 1) cells
 
 -- an offer that passes, and what is left of it when the slots are taken out
 module _ (m : Meaning) (laws : FieldLaws m) (t : Table) (log : Log) (o : Offer) (h : Holds m t.width log t)
     (fine : checked m.order t.width o ≡ Ok tt) (cells left : List ℕ) (extended : Extended o.coefficients o.value cells)
-    (full : length (front t.width cells) ≡ 2 * t.width + 1)
+    (full : length (front t.width cells) ≡ 2 * t.width + 1) (same : length left ≡ length (front t.width cells))
     (reduces : (k : ℕ) → k < length (front t.width cells)
     → entries left k
     ≡ taken_out m (entries o.coefficients) (λ p. cell t.slots p k) (entries (front t.width cells) k) (length o.coefficients)) where
@@ -104,9 +104,9 @@ module _ (m : Meaning) (laws : FieldLaws m) (t : Table) (log : Log) (o : Offer) 
   whole_row =
       let long = sound.coefficients.long in
       record {
-        front = λ k l. get_or-take (2 * n + 1 - 0) cells k 0 (omega arith) ∙ extended.front k (omega arith);
-        middle = get_or-take (2 * n + 1 - 0) cells n 0 (omega arith) ∙ ap (entries cells) (sym long) ∙ extended.middle;
-        back = λ i l. get_or-take (2 * n + 1 - 0) cells (n + 1 + i) 0 (omega arith) ∙ extended.back (n + 1 + i) (omega arith);
+        front = λ k l. get_or-take (2 * n + 1) cells k 0 (omega arith) ∙ extended.front k (omega arith);
+        middle = get_or-take (2 * n + 1) cells n 0 (omega arith) ∙ ap (entries cells) (sym long) ∙ extended.middle;
+        back = λ i l. get_or-take (2 * n + 1) cells (n + 1 + i) 0 (omega arith) ∙ extended.back (n + 1 + i) (omega arith);
       }
 
   reduced : (k : ℕ) → k < 2 * n + 1 → entries left k ≡ taken_out m (entries o.coefficients) (λ p. cell t.slots p k) (entries whole k) n
@@ -115,8 +115,16 @@ module _ (m : Meaning) (laws : FieldLaws m) (t : Table) (log : Log) (o : Offer) 
       reduces k (omega arith) ∙ ap (taken_out m (entries o.coefficients) (λ p. cell t.slots p k) (entries (front n cells) k)) sound.coefficients.long
 
   -- no coefficient is left
-  module _ (none : FirstNonzero n left None) (ws : List ℕ) (long : length ws ≡ n)
-      (negatives : (k : ℕ) → k < n → entries ws k ≡ m.negative (entries left (n + 1 + k))) where
+  module _ (none : FirstNonzero n left None) (ws : List ℕ) (many : length ws ≡ length o.weights)
+      (written : (k : ℕ) → k < length o.weights → entries ws k ≡ m.negative (entries (take (length left - (n + 1)) (drop (n + 1) left)) k)) where
+    long : length ws ≡ n
+    long = many ∙ (checked_sound m n o fine).1
+
+    negatives : (k : ℕ) → k < n → entries ws k ≡ m.negative (entries left (n + 1 + k))
+    negatives k l =
+        written k (omega (arith, (checked_sound m n o fine).1))
+        ∙ ap m.negative (get_or-take (length left - (n + 1)) (drop (n + 1) left) k 0 (omega (arith, same, full)) ∙ get_or-drop (n + 1) left k 0)
+
     pub holds_implied : entries left t.width ≡ 0 → Holds m t.width (offered o (Ok Implied) ws ∷ log) t
     holds_implied v = record {
       width = refl;
@@ -162,10 +170,10 @@ module _ (m : Meaning) (laws : FieldLaws m) (t : Table) (log : Log) (o : Offer) 
         let c = h.count in
         omega arith
 
-    pub holds_kept : (long : length left ≡ 2 * t.width + 1) (divided : List ℕ) → length divided ≡ length left → (after : Table)
-        → Keeps m q left divided t after → (ws : List ℕ) → ws ≡ replicate t.width 0
+    pub holds_kept : (divided : List ℕ) → length divided ≡ length left → (after : Table)
+        → Keeps m q left divided t after → (ws : List ℕ) → ws ≡ replicate (length o.weights) 0
         → Holds m t.width (offered o (Ok (Kept t.count)) ws ∷ log) after
-    holds_kept long divided same after k ws zeros =
+    holds_kept divided long after k ws zeros =
         let both = kept_both m laws n (kept log) (made_tabled m laws n md) t.slots shows (made_sounds md) (equation o) sound whole left whole_row reduced
         q first.0 first.1 first.2 in
         record {
@@ -174,7 +182,7 @@ module _ (m : Meaning) (laws : FieldLaws m) (t : Table) (log : Log) (o : Offer) 
             fine,
             (
               h.count,
-              zeros,
+              zeros ∙ ap (λ k. replicate k 0) (checked_sound m n o fine).1,
               (both.0.0, (possible_kept md both.0.0).1 both.0.1, both.0.2),
               (both.1.0, (possible_kept md both.1.0).1 both.1.1, both.1.2),
             ),
@@ -183,7 +191,7 @@ module _ (m : Meaning) (laws : FieldLaws m) (t : Table) (log : Log) (o : Offer) 
           slots =
               shown_slots m laws n (kept log ++ (equation o ∷ [])) _ after.slots
               (kept_shows m laws n (kept log) (made_tabled m laws n md) t.slots shows (made_sounds md) (equation o) sound whole left whole_row reduced
-              q first.0 first.1 first.2 long divided same after.slots
+              q first.0 first.1 first.2 (same ∙ full) divided long after.slots
               (subst (λ c. Divided m q (set left (n + 1 + c) 1) divided) h.count k.divides) k.places)
               (each_more (Sound m n) (kept log) (equation o) (made_sounds md) sound);
         }

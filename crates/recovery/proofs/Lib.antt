@@ -1,6 +1,6 @@
 -- Lemmas on tables.
 mod Steps
-mod FreeSteps
+mod FreeColumns
 mod Showing
 mod Judging
 mod Keeping

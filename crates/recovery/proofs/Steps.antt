@@ -1,25 +1,36 @@
 -- The steps of the loops over rows and slots.
-use Rattle.std.proofs.Common.{◌≡◌, ℕ, zero, suc, ◌+◌, ◌<◌, ◌≤◌, eqb, ◌≢◌, List, [], length, get_or, set, replicate, sym, refl, ap, ◌∙◌, ap₂, add-one, arith, get_or-set_other, get_or-set_same, eq-eqb, ne_eqb}
-use native.Mathlib.Decide.{ℕ_discrete}
+use Rattle.std.proofs.Common.{◌≡◌, ℕ, zero, suc, ◌+◌, ◌-◌, ◌<◌, ◌≤◌, eqb, ◌≢◌, List, [], ◌++◌, length, get_or, set, take, drop, replicate, sym, refl, ap, ◌∙◌, ap₂, add-one, arith, length-append, length-drop, get_or-drop, get_or-take, get_or-set_other, get_or-set_same, eq-eqb, ne_eqb}
+use Rattle.std.proofs.lemmas.List.{get_or_append_left, get_or-append_right, length-take-le}
 use Rattle.std.proofs.lemmas.Bool.{cond-true, cond-false}
 use Rattle.algebra.specs.Meaning.{Meaning}
 use Rattle.algebra.specs.Multiples.{MultipleAdded}
 use Rattle.algebra.specs.Vectors.{entries}
-use Rattle.recovery.specs.Cells.{cell, plus_times, taken_out}
+use Rattle.recovery.specs.Cells.{cell, plus_times, taken_out, Extended, Cleared, Placed}
 
 pub zeros_at : (n k : ℕ) → get_or {A = ℕ} (replicate n 0) k 0 ≡ 0
 zeros_at zero k = refl
 zeros_at (suc n) zero = refl
 zeros_at (suc n) (suc k) = zeros_at n k
 
--- one more entry written
-pub written_more : (f : ℕ → ℕ) (xs : List ℕ) (i x : ℕ) → i < length xs → ((k : ℕ) → k < i → entries xs k ≡ f k) → x ≡ f i
-    → (k : ℕ) → k < i + 1 → entries (set xs i x) k ≡ f k
-written_more f xs i x l h e k b = go (ℕ_discrete k i)
+-- coefficients at the front of zeros, and a value after them
+pub extended_row : (coefficients front : List ℕ) (value : ℕ) → front ≡ coefficients → length coefficients < 129
+    → Extended coefficients value (set (front ++ drop (length coefficients) (replicate 129 0)) (length coefficients) value)
+extended_row cs front value e l = record {
+  front = λ k b.
+      get_or-set_other (front ++ rest) (length cs) k value 0 (omega arith)
+      ∙ get_or_append_left front rest 0 k (omega (arith, ap length e)) ∙ ap (λ s. entries s k) e;
+  middle = get_or-set_same (front ++ rest) (length cs) value 0 (rw (length-append front rest) (omega (arith, ap length e, long)));
+  back = λ k b.
+      get_or-set_other (front ++ rest) (length cs) k value 0 (omega arith)
+      ∙ get_or-append_right front rest (length cs) k 0 (ap length e) (omega arith)
+      ∙ get_or-drop (length cs) (replicate 129 0) (k - length cs) 0 ∙ zeros_at 129 (length cs + (k - length cs));
+}
   where
-    go : Dec (k ≡ i) → entries (set xs i x) k ≡ f k
-    go (yes s) = rw s (get_or-set_same xs i x 0 l ∙ e)
-    go (no ne) = get_or-set_other xs i k x 0 ne ∙ h k (omega arith)
+    rest : List ℕ
+    rest = drop (length cs) (replicate 129 0)
+
+    long : length rest ≡ 129 - length cs
+    long = length-drop (length cs) (replicate 129 0)
 
 module _ (m : Meaning) where
   pub plus_none : (by x y : ℕ) → by ≡ 0 → plus_times m by x y ≡ x
@@ -52,3 +63,18 @@ module _ (m : Meaning) where
         ∙ inv k l
         ∙ sym (plus_none (m.negative (c i)) (taken_out m c (λ p. cell slots p k) (start k) i) (cell slots i k) (sym e ∙ z))
         ∙ sym (taken_more c (λ p. cell slots p k) (start k) i)
+
+  -- the first n slots cleared, and one of them written
+  pub placed : (n q : ℕ) (row : List ℕ) (before cleared rest : List (List ℕ)) (slot : List ℕ) → n ≤ length before → q < n
+      → length cleared ≡ length (take n before) → Cleared m (length (take n before)) q row (take n before) cleared
+      → ((k : ℕ) → k < length row → entries slot k ≡ entries row k) → Placed m n q row before (set (cleared ++ rest) q slot)
+  placed n q row before cleared rest slot within inside same cl w = record {
+    here = λ j l. ap (λ s. entries s j) (get_or-set_same (cleared ++ rest) q slot [] (rw (length-append cleared rest) (omega (arith, same, long)))) ∙ w j l;
+    others = λ p j lp ne l.
+        ap (λ s. entries s j) (get_or-set_other (cleared ++ rest) q p slot [] ne ∙ get_or_append_left cleared rest [] p (omega (arith, same, long)))
+        ∙ cl p j (omega (arith, long)) l
+        ∙ ap (λ s. plus_times m (m.negative (entries s q)) (entries s j) (entries row j)) (get_or-take n before p [] lp);
+  }
+    where
+      long : length (take n before) ≡ n
+      long = length-take-le n before within

@@ -3,7 +3,7 @@ ghost use Rattle.std.specs.Prelude.{◌≡◌, ℕ, ◌+◌, ◌*◌, ◌<◌, [
 ghost use Rattle.logs.specs.Offers.{checked, offer, Log, offered, ranked, kept};
 ghost use Rattle.recovery.specs.Tables.{Holds, Keeps, verdict};
 
-use crate::elimination::{divide, extended, first_nonzero, place, reduce, write_negatives};
+use crate::elimination::{divide, extended, first_nonzero, place, write_negatives};
 use crate::published::Published;
 use crate::table::{CELLS, Table, UNKNOWNS};
 use crate::width::Width;
@@ -18,82 +18,6 @@ use logs::refusal::Refusal;
 pub struct Collection<F: Field + Drop> {
     field: F,
     table: Table,
-}
-
-// Refuses 2, 3 or 4, in this order.
-fn check<R: Ring>(
-    r: &R,
-    n: usize,
-    coefficients: &[u32],
-    value: u32,
-    weights: &[u32],
-) -> Result<(), Refusal>
-    ensures { result ≡ checked (R.Ring.meaning r.now).order n (offer coefficients.now value weights.now) }
-{
-    if coefficients.len() != n {
-        return Err(Refusal::Coefficients);
-    }
-    if weights.len() != n {
-        return Err(Refusal::Length);
-    }
-    if let Some(position) = first_outside(r, coefficients) {
-        return Err(Refusal::Code { position });
-    }
-    if u64::from(value) >= r.order() {
-        return Err(Refusal::Code { position: n });
-    }
-    Ok(())
-}
-
-// Places what is left of an equation at column q, with its own weight.
-fn keep<F: Field>(f: &F, table: &mut Table, left: &mut [u32], q: usize)
-    requires { (q < table.old.width) × ((table.old.count < table.old.width) × (length left.old ≡ 2 * table.old.width + 1)) }
-    ensures { Keeps (F.Ring.meaning f.now) q left.old left.new table.old table.new }
-{
-    let n = table.width;
-    let count = table.count;
-    left[n + 1 + count] = 1;
-    divide(f, left, q);
-    place(f, &mut table.slots, left, q, n);
-    table.count = count + 1;
-}
-
-// Judges an offer that passes its checks: what is left of it when the slots are taken out decides.
-fn judge<F: Field>(
-    f: &F,
-    table: &mut Table,
-    coefficients: &[u32],
-    value: u32,
-    weights: &mut [u32],
-) -> Answer
-    requires { checked (F.Ring.meaning f.now).order table.old.width (offer coefficients.now value weights.old) ≡ Ok tt }
-    ensures width { table.new.width ≡ table.old.width }
-    ensures unkept { ((k : ℕ) → result ≢ Answer.Kept k) → table.new ≡ table.old }
-    ensures log { (log : Log) → Holds (F.Ring.meaning f.now) table.old.width log table.old → Holds (F.Ring.meaning f.now) table.old.width (offered (offer coefficients.now value weights.old) (Ok result) weights.new ∷ log) table.new }
-{
-    let n = table.width;
-    let mut cells = extended(coefficients, value);
-    let left = &mut cells[0..2 * n + 1];
-    reduce(f, left, &table.slots, coefficients);
-    match first_nonzero(left, n) {
-        Some(q) => {
-            weights.fill(0);
-            let count = table.count;
-            // there is always room, since no kept equation is a sum of the others
-            if count < n {
-                keep(f, table, left, q);
-            }
-            Answer::Kept(count)
-        }
-        None => {
-            write_negatives(f, left, n + 1, weights);
-            if left[n] == 0 {
-                Answer::Implied
-            } else {
-                Answer::Contradiction
-            }
-        }
-    }
 }
 
 impl<F: Field + Drop> Collection<F> {
@@ -111,8 +35,8 @@ impl<F: Field + Drop> Collection<F> {
         Collection { field, table }
     }
 
-    // Offers an equation. Refuses 2, 3 or 4; a refusal changes nothing. Kept: all weights become 0. Otherwise the weights build the
-    // coefficients from the kept equations, and the value too where the equation is implied.
+    // Offers an equation. A refusal changes nothing. Kept: all weights become 0. Otherwise the weights build the coefficients from the
+    // kept equations, and the value too where the equation is implied.
     pub fn offer(
         &mut self,
         coefficients: &[u32],
@@ -126,8 +50,77 @@ impl<F: Field + Drop> Collection<F> {
         ensures unkept { ((k : ℕ) → result ≢ Ok (Answer.Kept k)) → self.new ≡ self.old }
         ensures log { (n : ℕ) (log : Log) → Holds (F.Ring.meaning self.old.field) n log self.old.table → Holds (F.Ring.meaning self.old.field) n (offered (offer coefficients.now value weights.old) result weights.new ∷ log) self.new.table }
     {
-        check(&self.field, self.table.width, coefficients, value, weights)?;
-        Ok(judge(&self.field, &mut self.table, coefficients, value, weights))
+        self.check(coefficients, value, weights)?;
+        Ok(self.judge(coefficients, value, weights))
+    }
+
+    // Refuses an offer by the first that is wrong of the coefficients' number, the weights' number, and the codes.
+    fn check(&self, coefficients: &[u32], value: u32, weights: &[u32]) -> Result<(), Refusal>
+        ensures { result ≡ checked (F.Ring.meaning self.now.field).order self.now.table.width (offer coefficients.now value weights.now) }
+    {
+        let n = self.table.width;
+        if coefficients.len() != n {
+            return Err(Refusal::Coefficients);
+        }
+        if weights.len() != n {
+            return Err(Refusal::Length);
+        }
+        if let Some(position) = first_outside(&self.field, coefficients) {
+            return Err(Refusal::Code { position });
+        }
+        if u64::from(value) >= self.field.order() {
+            return Err(Refusal::Code { position: n });
+        }
+        Ok(())
+    }
+
+    // Judges an offer that passes its checks: what is left of it when the slots are taken out decides.
+    fn judge(&mut self, coefficients: &[u32], value: u32, weights: &mut [u32]) -> Answer
+        requires { checked (F.Ring.meaning self.old.field).order self.old.table.width (offer coefficients.now value weights.old) ≡ Ok tt }
+        ensures field { self.new.field ≡ self.old.field }
+        ensures width { self.new.table.width ≡ self.old.table.width }
+        ensures unkept { ((k : ℕ) → result ≢ Answer.Kept k) → self.new ≡ self.old }
+        ensures log { (log : Log) → Holds (F.Ring.meaning self.old.field) self.old.table.width log self.old.table → Holds (F.Ring.meaning self.old.field) self.old.table.width (offered (offer coefficients.now value weights.old) (Ok result) weights.new ∷ log) self.new.table }
+    {
+        let n = self.table.width;
+        let mut cells = extended(coefficients, value);
+        let left = &mut cells[..2 * n + 1];
+        self.table.reduce(&self.field, left, coefficients);
+        match first_nonzero(left, n) {
+            Some(q) => {
+                weights.fill(0);
+                let count = self.table.count;
+                // there is always room, since no kept equation is a sum of the others
+                if count < n {
+                    self.keep(left, q);
+                }
+                Answer::Kept(count)
+            }
+            None => {
+                write_negatives(&self.field, &left[n + 1..], weights);
+                if left[n] == 0 {
+                    Answer::Implied
+                } else {
+                    Answer::Contradiction
+                }
+            }
+        }
+    }
+
+    // Places what is left of an equation at column q, with its own weight.
+    fn keep(&mut self, left: &mut [u32], q: usize)
+        requires pivot { q < self.old.table.width }
+        requires room { self.old.table.count < self.old.table.width }
+        requires long { length left.old ≡ 2 * self.old.table.width + 1 }
+        ensures field { self.new.field ≡ self.old.field }
+        ensures table { Keeps (F.Ring.meaning self.old.field) q left.old left.new self.old.table self.new.table }
+    {
+        let n = self.table.width;
+        let count = self.table.count;
+        left[n + 1 + count] = 1;
+        divide(&self.field, left, q);
+        place(&self.field, &mut self.table.slots, n, left, q);
+        self.table.count = count + 1;
     }
 
     // How many equations are kept.

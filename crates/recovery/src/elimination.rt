@@ -3,35 +3,20 @@ ghost use Rattle.std.specs.Prelude.{◌≡◌, ℕ, ◌+◌, ◌<◌, ◌≤◌,
 ghost use Rattle.algebra.specs.Vectors.{entries};
 ghost use Rattle.recovery.specs.Cells.{cell, taken_out, Extended, FirstNonzero, Divided, Cleared, Placed};
 
-use crate::table::{CELLS, Slots};
+use crate::table::{CELLS, Slots, Table, UNKNOWNS};
 use algebra::field::Field;
 use algebra::multiples::{add_multiple, scale};
 use algebra::ring::Ring;
 
 // An equation as a row of cells, with no weights.
 pub(crate) fn extended(coefficients: &[u32], value: u32) -> [u32; CELLS]
-    requires { length coefficients.now ≤ 64 }
+    requires { length coefficients.now < CELLS }
     ensures { Extended coefficients.now value result }
 {
     let mut row = [0; CELLS];
-    for i in 0..coefficients.len() {
-        row[i] = coefficients[i];
-    }
+    row[..coefficients.len()].copy_from_slice(coefficients);
     row[coefficients.len()] = value;
     row
-}
-
-// Takes each slot out of `left`, as often as the coefficient at its column says.
-pub(crate) fn reduce<R: Ring>(r: &R, left: &mut [u32], slots: &Slots, coefficients: &[u32])
-    requires { (length coefficients.now ≤ 64) × (length left.old ≤ 129) }
-    ensures { (k : ℕ) → k < length left.old → entries left.new k ≡ taken_out (R.Ring.meaning r.now) (entries coefficients.now) (λ p. cell slots.now p k) (entries left.old k) (length coefficients.now) }
-{
-    for p in 0..coefficients.len() {
-        let by = r.negative(coefficients[p]);
-        if by != 0 {
-            add_multiple(r, left, by, &slots[p]);
-        }
-    }
 }
 
 // The first of n cells that is not 0.
@@ -39,12 +24,7 @@ pub(crate) fn first_nonzero(row: &[u32], n: usize) -> Option<usize>
     requires { n ≤ length row.now }
     ensures { FirstNonzero n row.now result }
 {
-    for q in 0..n {
-        if row[q] != 0 {
-            return Some(q);
-        }
-    }
-    None
+    row[..n].iter().position(|x| *x != 0)
 }
 
 // Divides the row by its cell q.
@@ -57,44 +37,62 @@ pub(crate) fn divide<F: Field>(f: &F, row: &mut [u32], q: usize)
     }
 }
 
-// Clears column q by the row in the first n slots.
-fn clear<R: Ring>(r: &R, slots: &mut Slots, row: &[u32], q: usize, n: usize)
-    requires { (n ≤ 64) × ((q < 129) × (length row.now ≤ 129)) }
-    ensures { Cleared (R.Ring.meaning r.now) n q row.now slots.old slots.new }
+// Writes the negatives of the cells, as far as `out` goes.
+pub(crate) fn write_negatives<R: Ring>(r: &R, row: &[u32], out: &mut [u32])
+    requires { length out.old ≤ length row.now }
+    ensures { (k : ℕ) → k < length out.old → entries out.new k ≡ (R.Ring.meaning r.now).negative (entries row.now k) }
 {
-    for p in 0..n {
-        let by = r.negative(slots[p][q]);
+    for (i, x) in out.iter_mut().enumerate() {
+        *x = r.negative(row[i]);
+    }
+}
+
+impl Table {
+    // Takes each slot out of `left`, as often as the coefficient at its column says.
+    pub(crate) fn reduce<R: Ring>(&self, r: &R, left: &mut [u32], coefficients: &[u32])
+        requires few { length coefficients.now ≤ self.now.width }
+        requires short { length left.old ≤ CELLS }
+        ensures { (k : ℕ) → k < length left.old → entries left.new k ≡ taken_out (R.Ring.meaning r.now) (entries coefficients.now) (λ p. cell self.now.slots p k) (entries left.old k) (length coefficients.now) }
+    {
+        for (c, slot) in coefficients.iter().zip(&self.slots) {
+            let by = r.negative(*c);
+            if by != 0 {
+                add_multiple(r, left, by, slot);
+            }
+        }
+    }
+}
+
+// Clears column q by the row.
+fn clear<R: Ring>(r: &R, slots: &mut [[u32; CELLS]], row: &[u32], q: usize)
+    requires column { q < CELLS }
+    requires short { length row.now ≤ CELLS }
+    ensures { Cleared (R.Ring.meaning r.now) (length slots.old) q row.now slots.old slots.new }
+{
+    for slot in slots {
+        let by = r.negative(slot[q]);
         if by != 0 {
-            add_multiple(r, &mut slots[p], by, row);
+            add_multiple(r, slot, by, row);
         }
     }
 }
 
 // Writes the row to the front of a slot.
 fn write(slot: &mut [u32; CELLS], row: &[u32])
-    requires { length row.now ≤ 129 }
+    requires { length row.now ≤ CELLS }
     ensures { (k : ℕ) → k < length row.now → entries slot.new k ≡ entries row.now k }
 {
-    for i in 0..row.len() {
-        slot[i] = row[i];
-    }
+    slot[..row.len()].copy_from_slice(row);
 }
 
-// Clears column q by the row in the first n slots, and puts the row into slot q.
-pub(crate) fn place<R: Ring>(r: &R, slots: &mut Slots, row: &[u32], q: usize, n: usize)
-    requires { (n ≤ 64) × ((q < n) × (length row.now ≤ 129)) }
+// Clears column q by the row in the first n slots, and puts the row into slot q. A function of the slots, since the writes to
+// elements of a field beside ghost fields get no proof.
+pub(crate) fn place<R: Ring>(r: &R, slots: &mut Slots, n: usize, row: &[u32], q: usize)
+    requires few { n ≤ UNKNOWNS }
+    requires pivot { q < n }
+    requires short { length row.now ≤ CELLS }
     ensures { Placed (R.Ring.meaning r.now) n q row.now slots.old slots.new }
 {
-    clear(r, slots, row, q, n);
+    clear(r, &mut slots[..n], row, q);
     write(&mut slots[q], row);
-}
-
-// Writes the negatives of the cells from `from` on.
-pub(crate) fn write_negatives<R: Ring>(r: &R, row: &[u32], from: usize, out: &mut [u32])
-    requires { from + length out.old ≤ length row.now }
-    ensures { (k : ℕ) → k < length out.old → entries out.new k ≡ (R.Ring.meaning r.now).negative (entries row.now (from + k)) }
-{
-    for i in 0..out.len() {
-        out[i] = r.negative(row[from + i]);
-    }
 }

@@ -11,7 +11,8 @@ pub const CELLS: usize = 129;
 pub(crate) type Slots = [[u32; CELLS]; UNKNOWNS];
 
 // With n unknowns, slot p below n holds the reduced row whose pivot is p, or zeros where column p is free: n coefficients, the
-// value, and n weights that build the row from the kept equations. So many equations are kept.
+// value, and n weights that build the row from the kept equations. `count` equations are kept. The slots are of fixed size, so that
+// a collection needs no memory from elsewhere.
 #[derive(Drop)]
 pub struct Table {
     pub(crate) slots: Slots,

@@ -6,14 +6,14 @@ use crate::table::UNKNOWNS;
 use logs::refusal::Refusal;
 
 // From 1 to 64 unknowns.
-#[derive(Clone, Copy)]
+#[derive(Clone, Copy, PartialEq, Eq, Debug)]
 pub struct Width {
     unknowns: usize,
     ghost narrow: { is_width unknowns ≡ true },
 }
 
 impl Width {
-    // Refuses 1 where the number is not from 1 to 64.
+    // Refuses a number that is not from 1 to 64.
     pub fn new(unknowns: usize) -> Result<Width, Refusal>
         ensures { MatchResult result (λ w. (is_width unknowns ≡ true) × (w.unknowns ≡ unknowns)) (λ x. (is_width unknowns ≡ false) × (x ≡ Refusal.Width)) }
     {

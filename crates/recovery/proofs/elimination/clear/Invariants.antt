@@ -1,10 +1,9 @@
-use Rattle.std.proofs.Common.{◌≡◌, ℕ, ◌≤◌, [], length, get_or}
+use Rattle.std.proofs.Common.{◌≡◌, ℕ, ◌≤◌, [], get_or}
 use Rattle.recovery.specs.Cells.{Cleared}
 use Rattle.recovery.proofs.elimination.clear.Given as goal
 
--- the slots before p are cleared, the others are as they were
-abbrev pub invariant-loop-p : goal.invariant-loop-p
-invariant-loop-p g l =
-    Cleared (g.R.Ring.meaning l.r) l.p l.q l.row l.initial.slots l.slots
-    × ((p : ℕ) → l.p ≤ p → get_or l.slots p [] ≡ get_or l.initial.slots p [])
-    × (length l.slots ≡ 64)
+-- the slots that are passed are cleared, the others are as they were
+abbrev pub invariant-loop-slot : goal.invariant-loop-slot
+invariant-loop-slot g l =
+    Cleared (g.R.Ring.meaning l.r) l.slot-index l.q l.row l.fn.slots l.slot-items
+    × ((p : ℕ) → l.slot-index ≤ p → get_or l.slot-items p [] ≡ get_or l.fn.slots p [])

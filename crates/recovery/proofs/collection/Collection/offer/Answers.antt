@@ -26,12 +26,12 @@ returns g c =
     let m = g.F.Ring.meaning c.args.self.now.field in
     let o = offer c.args.coefficients.now c.args.value c.args.weights.now in
     record {
-      field = refl;
+      field = c.judge.ensures.field;
       width = c.judge.ensures.width;
       answer = c.in_ok-check.ensures;
       refused = λ x e. absurd (err_ok (sym e));
-      unkept = λ no. ap (λ t. record { field = c.args.self.now.field; table = t }) (c.judge.ensures.unkept (λ k e. no k (ap Ok e)));
+      unkept = λ no. c.judge.ensures.unkept (λ k e. no k (ap Ok e));
       log = λ n log h.
-          let P : ℕ → Type 0 = λ k. Holds m k log c.args.self.now.table → Holds m k (offered o (Ok c.judge.result) c.judge.new.weights ∷ log) c.judge.new.table in
+          let P : ℕ → Type 0 = λ k. Holds m k log c.args.self.now.table → Holds m k (offered o (Ok c.judge.result) c.judge.new.weights ∷ log) c.judge.new.self.table in
           subst P h.width (c.judge.ensures.log log) h;
     }

@@ -16,5 +16,5 @@ returns g c =
       answer = sym (cond-true (eqb (length out) t.width) _ _ (eq-eqb (length out) t.width c.if-out-self.false));
       refused = λ x e. absurd (err_ok (sym e));
       log = λ n log h.
-          asked_solution m laws n log t h out c.write_column.new.out c.if-out-self.false c.write_column.auto.out c.write_column.ensures;
+          asked_solution m laws n log t h out c.write_values.new.out c.if-out-self.false c.write_values.auto.out c.write_values.ensures;
     }
