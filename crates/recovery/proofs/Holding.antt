@@ -15,7 +15,7 @@ use Rattle.logs.proofs.Histories.{made_sounds, made_tabled, possible_kept}
 use Rattle.recovery.specs.declared.table.Table.{Table}
 use Rattle.recovery.specs.Cells.{cell, taken_out, Extended, FirstNonzero, Divided}
 use Rattle.recovery.specs.Tables.{Holds, Keeps}
-use Rattle.recovery.proofs.Judging.{Row, closed_builds, implied_value, missed_value, implied_all, missed_all}
+use Rattle.recovery.proofs.Judging.{Row, Left, closed_builds, implied_value, missed_value, implied_all, missed_all}
 use Rattle.recovery.proofs.Keeping.{kept_both, kept_room, kept_shows}
 use Rattle.recovery.proofs.Reading.{slots_show}
 use Rattle.recovery.proofs.Showing.{Shows, shown_slots}
@@ -114,6 +114,9 @@ module _ (m : Meaning) (laws : FieldLaws m) (t : Table) (log : Log) (o : Offer) 
   reduced k l =
       reduces k (omega arith) ∙ ap (taken_out m (entries o.coefficients) (λ p. cell t.slots p k) (entries (front n cells) k)) sound.coefficients.long
 
+  given : Left m laws n (kept log) (made_tabled m laws n md) t.slots (equation o) left
+  given = record { shows = shows; sounds = made_sounds md; sound = sound; whole = whole; whole_row = whole_row; reduced = reduced }
+
   -- no coefficient is left
   module _ (none : FirstNonzero n left None) (ws : List ℕ) (many : length ws ≡ length o.weights)
       (written : (k : ℕ) → k < length o.weights → entries ws k ≡ m.negative (entries (take (length left - (n + 1)) (drop (n + 1) left)) k)) where
@@ -131,11 +134,11 @@ module _ (m : Meaning) (laws : FieldLaws m) (t : Table) (log : Log) (o : Offer) 
       made = offering md (
         fine,
         (
-          (λ x p. implied_all m laws n (kept log) (made_tabled m laws n md) t.slots shows (made_sounds md) (equation o) sound whole left whole_row reduced
+          (λ x p. implied_all m laws n (kept log) (made_tabled m laws n md) t.slots (equation o) left given
               none ws long negatives v x ((possible_kept md x).0 p)),
-          closed_builds m laws n (kept log) (made_tabled m laws n md) t.slots shows (made_sounds md) (equation o) sound whole left whole_row reduced
+          closed_builds m laws n (kept log) (made_tabled m laws n md) t.slots (equation o) left given
               none ws long negatives,
-          implied_value m laws n (kept log) (made_tabled m laws n md) t.slots shows (made_sounds md) (equation o) sound whole left whole_row reduced
+          implied_value m laws n (kept log) (made_tabled m laws n md) t.slots (equation o) left given
               none ws long negatives v,
         ),
       );
@@ -149,11 +152,11 @@ module _ (m : Meaning) (laws : FieldLaws m) (t : Table) (log : Log) (o : Offer) 
       made = offering md (
         fine,
         (
-          (λ x p. missed_all m laws n (kept log) (made_tabled m laws n md) t.slots shows (made_sounds md) (equation o) sound whole left whole_row reduced
+          (λ x p. missed_all m laws n (kept log) (made_tabled m laws n md) t.slots (equation o) left given
               none ws long negatives v x ((possible_kept md x).0 p)),
-          closed_builds m laws n (kept log) (made_tabled m laws n md) t.slots shows (made_sounds md) (equation o) sound whole left whole_row reduced
+          closed_builds m laws n (kept log) (made_tabled m laws n md) t.slots (equation o) left given
               none ws long negatives,
-          missed_value m laws n (kept log) (made_tabled m laws n md) t.slots shows (made_sounds md) (equation o) sound whole left whole_row reduced
+          missed_value m laws n (kept log) (made_tabled m laws n md) t.slots (equation o) left given
               none ws long negatives v,
         ),
       );
@@ -165,7 +168,7 @@ module _ (m : Meaning) (laws : FieldLaws m) (t : Table) (log : Log) (o : Offer) 
   module _ (q : ℕ) (first : FirstNonzero n left (Some q)) where
     pub holds_room : t.count < t.width
     holds_room =
-        let r = kept_room m laws n (kept log) (made_tabled m laws n md) t.slots shows (made_sounds md) (equation o) sound whole left whole_row reduced
+        let r = kept_room m laws n (kept log) (made_tabled m laws n md) t.slots (equation o) left given
         q first.0 first.1 first.2 in
         let c = h.count in
         omega arith
@@ -174,7 +177,7 @@ module _ (m : Meaning) (laws : FieldLaws m) (t : Table) (log : Log) (o : Offer) 
         → Keeps m q left divided t after → (ws : List ℕ) → ws ≡ replicate (length o.weights) 0
         → Holds m t.width (offered o (Ok (Kept t.count)) ws ∷ log) after
     holds_kept divided long after k ws zeros =
-        let both = kept_both m laws n (kept log) (made_tabled m laws n md) t.slots shows (made_sounds md) (equation o) sound whole left whole_row reduced
+        let both = kept_both m laws n (kept log) (made_tabled m laws n md) t.slots (equation o) left given
         q first.0 first.1 first.2 in
         record {
           width = k.width;
@@ -190,7 +193,7 @@ module _ (m : Meaning) (laws : FieldLaws m) (t : Table) (log : Log) (o : Offer) 
           count = let c = h.count in let l = length_more (kept log) (equation o) in let d = k.count in omega arith;
           slots =
               shown_slots m laws n (kept log ++ (equation o ∷ [])) _ after.slots
-              (kept_shows m laws n (kept log) (made_tabled m laws n md) t.slots shows (made_sounds md) (equation o) sound whole left whole_row reduced
+              (kept_shows m laws n (kept log) (made_tabled m laws n md) t.slots (equation o) left given
               q first.0 first.1 first.2 (same ∙ full) divided long after.slots
               (subst (λ c. Divided m q (set left (n + 1 + c) 1) divided) h.count k.divides) k.places)
               (each_more (Sound m n) (kept log) (equation o) (made_sounds md) sound);

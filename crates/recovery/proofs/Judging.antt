@@ -90,9 +90,17 @@ pub record Row (n : ℕ) (e : Equation) (row : List ℕ) : Type 0 where
   pub middle : entries row n ≡ e.value
   pub back : (i : ℕ) → i < n → entries row (n + 1 + i) ≡ 0
 
-module _ (m : Meaning) (laws : FieldLaws m) (n : ℕ) (es : List Equation) (t : Tabled m laws n es) (slots : List (List ℕ)) (s : Shows m laws n es t slots)
-    (sd : Sounds m n es) (e : Equation) (se : Sound m n e) (whole left : List ℕ) (whole_row : Row n e whole)
-    (reduced : (k : ℕ) → k < 2 * n + 1 → entries left k ≡ taken_out m (entries e.coefficients) (λ p. cell slots p k) (entries whole k) n) where
+-- what is left of an equation when the slots that show a table are taken out of its row
+pub record Left (m : Meaning) (laws : FieldLaws m) (n : ℕ) (es : List Equation) (t : Tabled m laws n es) (slots : List (List ℕ)) (e : Equation) (left : List ℕ) : Type 0 where
+  pub shows : Shows m laws n es t slots
+  pub sounds : Sounds m n es
+  pub sound : Sound m n e
+  pub whole : List ℕ
+  pub whole_row : Row n e whole
+  pub reduced : (k : ℕ) → k < 2 * n + 1 → entries left k ≡ taken_out m (entries e.coefficients) (λ p. cell slots p k) (entries whole k) n
+
+module _ (m : Meaning) (laws : FieldLaws m) (n : ℕ) (es : List Equation) (t : Tabled m laws n es) (slots : List (List ℕ)) (e : Equation) (left : List ℕ)
+    (given : Left m laws n es t slots e left) where
   open (field m laws).ring.ops use {𝟘, 𝟙, ◌⊕◌, ◌⊗◌, ⊖}
 
   abbrev Fd : FieldOn (Code m)
@@ -102,18 +110,18 @@ module _ (m : Meaning) (laws : FieldLaws m) (n : ℕ) (es : List Equation) (t : 
   c = vec m laws e.coefficients
 
   coefficient : (p : ℕ) → entries e.coefficients p < m.order
-  coefficient p = codes_at m laws e.coefficients se.coefficients.codes p
+  coefficient p = codes_at m laws e.coefficients given.sound.coefficients.codes p
 
   -- what the slots take out of cell k
   taken : ℕ → Code m
   taken k = sum (code_ops m laws) n (λ p. vec m laws e.coefficients p ⊗ code m laws (cell slots p k))
 
-  left_code : (k : ℕ) → k < 2 * n + 1 → entries whole k < m.order
-      → (entries left k < m.order) × (code m laws (entries left k) ≡ code m laws (entries whole k) ⊕ ⊖ (taken k))
+  left_code : (k : ℕ) → k < 2 * n + 1 → entries given.whole k < m.order
+      → (entries left k < m.order) × (code m laws (entries left k) ≡ code m laws (entries given.whole k) ⊕ ⊖ (taken k))
   unfolding taken
   left_code k l h =
-      let u = taken_code m laws (entries e.coefficients) (λ p. cell slots p k) (entries whole k) n h (λ p _. coefficient p) (λ p b. s.codes p k b l) in
-      (subst (λ x. x < m.order) (sym (reduced k l)) u.0, ap (code m laws) (reduced k l) ∙ u.1)
+      let u = taken_code m laws (entries e.coefficients) (λ p. cell slots p k) (entries given.whole k) n h (λ p _. coefficient p) (λ p b. given.shows.codes p k b l) in
+      (subst (λ x. x < m.order) (sym (given.reduced k l)) u.0, ap (code m laws) (given.reduced k l) ∙ u.1)
 
   -- the sums over the slots are those over the table
   over : (k : ℕ) (g : ℕ → Code m) → ((p : ℕ) → p < n → code m laws (cell slots p k) ≡ g p) → taken k ≡ sum (code_ops m laws) n (λ p. c p ⊗ g p)
@@ -122,13 +130,13 @@ module _ (m : Meaning) (laws : FieldLaws m) (n : ℕ) (es : List Equation) (t : 
 
   pub left_rest : (j : ℕ) → j < n → (entries left j < m.order) × (code m laws (entries left j) ≡ rest m laws n es t e j)
   left_rest j l =
-      let u = left_code j (omega arith) (subst (λ x. x < m.order) (sym (whole_row.front j l)) (coefficient j)) in
-      (u.0, u.1 ∙ ap₂ (λ x y. code m laws x ⊕ ⊖ y) (whole_row.front j l) (over j (λ p. t.row_of p j) (λ p k. s.rows p j k l)))
+      let u = left_code j (omega arith) (subst (λ x. x < m.order) (sym (given.whole_row.front j l)) (coefficient j)) in
+      (u.0, u.1 ∙ ap₂ (λ x y. code m laws x ⊕ ⊖ y) (given.whole_row.front j l) (over j (λ p. t.row_of p j) (λ p k. given.shows.rows p j k l)))
 
   pub left_value : (entries left n < m.order) × (code m laws (entries left n) ≡ rest_value m laws n es t e)
   left_value =
-      let u = left_code n (omega arith) (subst (λ x. x < m.order) (sym whole_row.middle) se.value) in
-      (u.0, u.1 ∙ ap₂ (λ x y. code m laws x ⊕ ⊖ y) whole_row.middle (over n t.val_of s.values))
+      let u = left_code n (omega arith) (subst (λ x. x < m.order) (sym given.whole_row.middle) given.sound.value) in
+      (u.0, u.1 ∙ ap₂ (λ x y. code m laws x ⊕ ⊖ y) given.whole_row.middle (over n t.val_of given.shows.values))
 
   -- the weights that build what was taken out
   abbrev pub taken_weight : ℕ → Code m
@@ -136,9 +144,9 @@ module _ (m : Meaning) (laws : FieldLaws m) (n : ℕ) (es : List Equation) (t : 
 
   pub left_weight : (i : ℕ) → i < n → (entries left (n + 1 + i) < m.order) × (code m laws (entries left (n + 1 + i)) ≡ ⊖ (taken_weight i))
   left_weight i l =
-      let u = left_code (n + 1 + i) (omega arith) (subst (λ x. x < m.order) (sym (whole_row.back i l)) (zero_code m laws)) in (
+      let u = left_code (n + 1 + i) (omega arith) (subst (λ x. x < m.order) (sym (given.whole_row.back i l)) (zero_code m laws)) in (
         u.0,
-        u.1 ∙ ap₂ (λ x y. x ⊕ ⊖ y) (from_zero m laws (entries whole (n + 1 + i)) (whole_row.back i l)) (over (n + 1 + i) (λ p. t.weight_of p i) (λ p k. s.weights p i k l))
+        u.1 ∙ ap₂ (λ x y. x ⊕ ⊖ y) (from_zero m laws (entries given.whole (n + 1 + i)) (given.whole_row.back i l)) (over (n + 1 + i) (λ p. t.weight_of p i) (λ p k. given.shows.weights p i k l))
             ∙ zero-+ Fd.ring (⊖ (taken_weight i)),
       )
 
@@ -181,20 +189,20 @@ module _ (m : Meaning) (laws : FieldLaws m) (n : ℕ) (es : List Equation) (t : 
     pub closed_builds : Builds m n es ws e.coefficients
     closed_builds =
         subst (λ us. Builds m n es us e.coefficients) (sym weights_listed)
-        (listed_builds m laws n es sd few taken_weight e.coefficients se.coefficients.codes
+        (listed_builds m laws n es given.sounds few taken_weight e.coefficients given.sound.coefficients.codes
         (λ i l. sum_zero Fd.ring n _ (λ p k. ap (λ x. c p ⊗ x) (t.fresh p k i l) ∙ *-zero Fd.ring (c p)))
         (λ j l. made (λ i. coef m laws n es i j) (λ p. t.row_of p j) (λ p k. t.builds p k j l) ∙ sym (from_less Fd.ring (c j) _ (closed j l))))
 
     value_sum_lem : (value_sum m ws es < m.order) × (code m laws (value_sum m ws es) ≡ sum (code_ops m laws) n (λ p. c p ⊗ t.val_of p))
     value_sum_lem =
-        let u = listed_value m laws n es sd few taken_weight in (
+        let u = listed_value m laws n es given.sounds few taken_weight in (
           subst (λ us. value_sum m us es < m.order) (sym weights_listed) u.0,
           ap (λ us. code m laws (value_sum m us es)) weights_listed ∙ u.1 ∙ made (value_of m laws n es) t.val_of t.values,
         )
 
     pub implied_value : entries left n ≡ 0 → value_sum m ws es ≡ e.value
     implied_value h =
-        code_same m laws _ e.value value_sum_lem.0 se.value
+        code_same m laws _ e.value value_sum_lem.0 given.sound.value
         (value_sum_lem.1 ∙ sym (from_less Fd.ring (code m laws e.value) _ (sym left_value.1 ∙ from_zero m laws (entries left n) h)))
 
     pub missed_value : entries left n ≢ 0 → value_sum m ws es ≢ e.value
@@ -203,7 +211,7 @@ module _ (m : Meaning) (laws : FieldLaws m) (n : ℕ) (es : List Equation) (t : 
         (left_value.1 ∙ to_difference Fd (code m laws e.value) _ (sym value_sum_lem.1 ∙ ap (code m laws) a)))
 
     pub implied_all : entries left n ≡ 0 → (v : List ℕ) → Possible m n es v → Satisfies m v e
-    implied_all h = closed_holds m laws n es t e sd se closed (sym left_value.1 ∙ from_zero m laws (entries left n) h)
+    implied_all h = closed_holds m laws n es t e given.sounds given.sound closed (sym left_value.1 ∙ from_zero m laws (entries left n) h)
 
     pub missed_all : entries left n ≢ 0 → (v : List ℕ) → Possible m n es v → Satisfies m v e → ⊥
-    missed_all h = closed_fails m laws n es t e sd se closed (λ a. h (to_zero m laws (entries left n) left_value.0 (left_value.1 ∙ a)))
+    missed_all h = closed_fails m laws n es t e given.sounds given.sound closed (λ a. h (to_zero m laws (entries left n) left_value.0 (left_value.1 ∙ a)))

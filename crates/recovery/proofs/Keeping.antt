@@ -2,7 +2,7 @@
 use Rattle.std.proofs.Common.{◌≡◌, ℕ, ◌+◌, ◌*◌, ◌<◌, ◌≢◌, List, [], ◌∷◌, ◌++◌, length, set, sym, ap, ◌∙◌, subst, ap₂, arith, length-set, get_or-set_other, get_or-set_same}
 use native.Mathlib.Decide.{ℕ_discrete}
 use Rattle.algebra.specs.Meaning.{Meaning}
-use Rattle.algebra.specs.Vectors.{Equation, entries, Sound, Sounds, Satisfies, Possible}
+use Rattle.algebra.specs.Vectors.{Equation, entries, Satisfies, Possible}
 use Rattle.linear.specs.Field.{FieldOn, FieldLaws}
 use Rattle.linear.specs.Table.{unit, unit_same, unit_other, Free, kern}
 use Rattle.linear.proofs.Identities.{units, zero-+, *-zero, *-assoc, *-comm, one-*, *-one, neg-*}
@@ -12,9 +12,9 @@ use Rattle.linear.proofs.Pivoting.{q_free}
 use Rattle.linear.proofs.Codes.{Code, code, code_one, code_product, to_zero, from_zero, one_code, vec, field, code_ops}
 use Rattle.linear.proofs.Systems.{length_more}
 use Rattle.linear.proofs.Tables.{Tabled, tabled_few, tabled_more, rest, rest_value, rest_weight, open_both}
-use Rattle.recovery.specs.Cells.{cell, taken_out, Divided, Placed}
+use Rattle.recovery.specs.Cells.{cell, Divided, Placed}
 use Rattle.recovery.proofs.Showing.{Shows, all_empty}
-use Rattle.recovery.proofs.Judging.{Row, plus_code, left_rest, left_value, left_weight, left_all, taken_weight}
+use Rattle.recovery.proofs.Judging.{Left, plus_code, left_rest, left_value, left_weight, left_all, taken_weight}
 
 -- identities, over any field
 module _ {K : Type 0} (F : FieldOn K) where
@@ -35,10 +35,8 @@ module _ {K : Type 0} (F : FieldOn K) where
   own_weight : (k x : K) → k ≡ 𝟙 → x ≡ 𝟘 → k ⊕ ⊖ x ≡ 𝟙
   own_weight k x ek ex = ap₂ (λ a b. a ⊕ ⊖ b) ek ex ∙ simp units
 
-module _ (m : Meaning) (laws : FieldLaws m) (n : ℕ) (es : List Equation) (t : Tabled m laws n es) (slots : List (List ℕ)) (s : Shows m laws n es t slots)
-    (sd : Sounds m n es) (e : Equation) (se : Sound m n e) (whole left : List ℕ) (whole_row : Row n e whole)
-    (reduced : (k : ℕ) → k < 2 * n + 1 → entries left k ≡ taken_out m (entries e.coefficients) (λ p. cell slots p k) (entries whole k) n)
-    (q : ℕ) (inside : q < n) (nonzero : entries left q ≢ 0) (early : (k : ℕ) → k < q → entries left k ≡ 0) where
+module _ (m : Meaning) (laws : FieldLaws m) (n : ℕ) (es : List Equation) (t : Tabled m laws n es) (slots : List (List ℕ)) (e : Equation) (left : List ℕ)
+    (given : Left m laws n es t slots e left) (q : ℕ) (inside : q < n) (nonzero : entries left q ≢ 0) (early : (k : ℕ) → k < q → entries left k ≡ 0) where
   open (field m laws).ring.ops use {𝟘, 𝟙, ◌⊕◌, ◌⊗◌, ⊖}
 
   abbrev Fd : FieldOn (Code m)
@@ -51,7 +49,7 @@ module _ (m : Meaning) (laws : FieldLaws m) (n : ℕ) (es : List Equation) (t : 
   r = rest m laws n es t e
 
   left_is : (j : ℕ) → j < n → (entries left j < m.order) × (code m laws (entries left j) ≡ r j)
-  left_is = left_rest m laws n es t slots s sd e se whole left whole_row reduced
+  left_is = left_rest m laws n es t slots e left given
 
   pub stays : ¬ (rest m laws n es t e q ≡ 𝟘)
   stays h = nonzero (to_zero m laws (entries left q) (left_is q inside).0 ((left_is q inside).1 ∙ h))
@@ -65,7 +63,7 @@ module _ (m : Meaning) (laws : FieldLaws m) (n : ℕ) (es : List Equation) (t : 
 
   -- a possible vector satisfies the offer, and another does not
   pub kept_both : ((v : List ℕ) × Possible m n es v × Satisfies m v e) × ((v : List ℕ) × Possible m n es v × (Satisfies m v e → ⊥))
-  kept_both = open_both m laws n es t e sd se opened
+  kept_both = open_both m laws n es t e given.sounds given.sound opened
 
   pub kept_room : length es < n
   kept_room = let f = tabled_few m laws n (es ++ (e ∷ [])) (tabled_more m laws n es t e opened) in let g = length_more es e in omega arith
@@ -95,7 +93,7 @@ module _ (m : Meaning) (laws : FieldLaws m) (n : ℕ) (es : List Equation) (t : 
       where
         go : Dec (j ≡ n + 1 + length es) → entries marked j < m.order
         go (yes h) = subst (λ x. x < m.order) (sym (ap (entries marked) h ∙ marked_own)) (one_code m laws)
-        go (no h) = subst (λ x. x < m.order) (sym (marked_other j h)) (left_all m laws n es t slots s sd e se whole left whole_row reduced j l)
+        go (no h) = subst (λ x. x < m.order) (sym (marked_other j h)) (left_all m laws n es t slots e left given j l)
 
     YRest : (j : ℕ) → j < n → Y j ≡ r j
     unfolding Y
@@ -103,13 +101,13 @@ module _ (m : Meaning) (laws : FieldLaws m) (n : ℕ) (es : List Equation) (t : 
 
     YValue : Y n ≡ rest_value m laws n es t e
     unfolding Y
-    YValue = ap (code m laws) (marked_other n (λ h. omega arith)) ∙ (left_value m laws n es t slots s sd e se whole left whole_row reduced).1
+    YValue = ap (code m laws) (marked_other n (λ h. omega arith)) ∙ (left_value m laws n es t slots e left given).1
 
     YWeight : (i : ℕ) → i < n → Y (n + 1 + i) ≡ rest_weight m laws n es t e i
     unfolding Y
     YWeight i l = go (ℕ_discrete i (length es))
       where
-        none : taken_weight m laws n es t slots s sd e se whole left whole_row reduced (length es) ≡ 𝟘
+        none : taken_weight m laws n es t slots e left given (length es) ≡ 𝟘
         none = sum_zero Fd.ring n _ (λ p k. ap (λ x. c p ⊗ x) (t.fresh p k (length es) (omega arith)) ∙ *-zero Fd.ring (c p))
 
         go : Dec (i ≡ length es) → code m laws (entries marked (n + 1 + i)) ≡ rest_weight m laws n es t e i
@@ -118,8 +116,8 @@ module _ (m : Meaning) (laws : FieldLaws m) (n : ℕ) (es : List Equation) (t : 
             ∙ sym (ap (rest_weight m laws n es t e) h ∙ own_weight Fd _ _ (unit_same (code_ops m laws) (length es)) none)
         go (no h) =
             ap (code m laws) (marked_other (n + 1 + i) (λ k. h (omega arith)))
-            ∙ (left_weight m laws n es t slots s sd e se whole left whole_row reduced i l).1
-            ∙ sym (ap (λ x. x ⊕ ⊖ (taken_weight m laws n es t slots s sd e se whole left whole_row reduced i)) (unit_other (code_ops m laws) (length es) i h)
+            ∙ (left_weight m laws n es t slots e left given i l).1
+            ∙ sym (ap (λ x. x ⊕ ⊖ (taken_weight m laws n es t slots e left given i)) (unit_other (code_ops m laws) (length es) i h)
             ∙ zero-+ Fd.ring _)
 
     divisor : (u : ℕ) × (u < m.order) × (m.product (entries marked q) u ≡ 1)
@@ -149,8 +147,8 @@ module _ (m : Meaning) (laws : FieldLaws m) (n : ℕ) (es : List Equation) (t : 
     was_empty : (j : ℕ) → j < 2 * n + 1 → code m laws (cell slots q j) ≡ 𝟘
     was_empty j l =
         from_zero m laws (cell slots q j)
-        (all_empty m laws n es t slots s q j inside l
-        (to_zero m laws (cell slots q q) (s.codes q q inside (omega arith)) (s.rows q q inside inside ∙ free.row q inside)))
+        (all_empty m laws n es t slots given.shows q j inside l
+        (to_zero m laws (cell slots q q) (given.shows.codes q q inside (omega arith)) (given.shows.rows q q inside inside ∙ free.row q inside)))
 
     after_code : (p j : ℕ) → p < n → j < 2 * n + 1
         → (cell after p j < m.order)
@@ -174,11 +172,11 @@ module _ (m : Meaning) (laws : FieldLaws m) (n : ℕ) (es : List Equation) (t : 
             )
         go (no h) =
             let i = places.others p j lp h ld in
-            let u = plus_code m laws (cell slots p q) (cell slots p j) (entries divided j) (s.codes p q lp (omega arith)) (s.codes p j lp lj) (divided_code j lj).0 in (
+            let u = plus_code m laws (cell slots p q) (cell slots p j) (entries divided j) (given.shows.codes p q lp (omega arith)) (given.shows.codes p j lp lj) (divided_code j lj).0 in (
               subst (λ x. x < m.order) (sym i) u.0,
               ap (code m laws) i ∙ u.1
                   ∙ ap (λ x. code m laws (cell slots p j) ⊕ x)
-                  (ap₂ (λ x y. ⊖ (x ⊗ y)) (s.rows p q lp inside) (divided_code j lj).1
+                  (ap₂ (λ x y. ⊖ (x ⊗ y)) (given.shows.rows p q lp inside) (divided_code j lj).1
                   ∙ sym (at_other Fd (unit (code_ops m laws) q p) (t.row_of p q) (Fd.inv (r q) ⊗ Y j) (unit_other (code_ops m laws) q p h))),
             )
 
@@ -188,11 +186,11 @@ module _ (m : Meaning) (laws : FieldLaws m) (n : ℕ) (es : List Equation) (t : 
       codes = λ p j lp lj. (after_code p j lp lj).0;
       rows = λ p j lp lj.
           (after_code p j lp (omega arith)).1
-          ∙ ap₂ (λ x y. x ⊕ kern Fd t.row_of q p ⊗ (Fd.inv (r q) ⊗ y)) (s.rows p j lp lj) (YRest j lj);
+          ∙ ap₂ (λ x y. x ⊕ kern Fd t.row_of q p ⊗ (Fd.inv (r q) ⊗ y)) (given.shows.rows p j lp lj) (YRest j lj);
       values = λ p lp.
           (after_code p n lp (omega arith)).1
-          ∙ ap₂ (λ x y. x ⊕ kern Fd t.row_of q p ⊗ (Fd.inv (r q) ⊗ y)) (s.values p lp) YValue;
+          ∙ ap₂ (λ x y. x ⊕ kern Fd t.row_of q p ⊗ (Fd.inv (r q) ⊗ y)) (given.shows.values p lp) YValue;
       weights = λ p i lp li.
           (after_code p (n + 1 + i) lp (omega arith)).1
-          ∙ ap₂ (λ x y. x ⊕ kern Fd t.row_of q p ⊗ (Fd.inv (r q) ⊗ y)) (s.weights p i lp li) (YWeight i li);
+          ∙ ap₂ (λ x y. x ⊕ kern Fd t.row_of q p ⊗ (Fd.inv (r q) ⊗ y)) (given.shows.weights p i lp li) (YWeight i li);
     }

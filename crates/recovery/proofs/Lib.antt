@@ -1,4 +1,5 @@
 -- Lemmas on tables.
+mod Laws
 mod Steps
 mod FreeColumns
 mod Showing

@@ -5,7 +5,7 @@ ghost use Rattle.std.specs.Prelude.{◌≤◌};
 pub const UNKNOWNS: usize = 64;
 
 // The cells of a slot at that many: coefficients, a value, and a weight for each equation kept.
-pub const CELLS: usize = 129;
+pub const CELLS: usize = 2 * UNKNOWNS + 1;
 
 // A slot for each column.
 pub(crate) type Slots = [[u32; CELLS]; UNKNOWNS];

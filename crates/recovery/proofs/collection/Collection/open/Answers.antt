@@ -1,13 +1,8 @@
 use Rattle.std.proofs.Common.{refl}
+use Rattle.recovery.proofs.Laws.{field_laws}
 use Rattle.recovery.proofs.Holding.{holds_opened}
 use Rattle.recovery.proofs.collection.Collection.open.Goals as goal
 
-pub returns : goal.returns
-returns g c = record {
-  field = refl;
-  width = c.unknowns.ensures;
-  log =
-      holds_opened (g.F.Ring.meaning c.args.field)
-      (record { ring = g.met.F.Ring.laws c.args.field; inverses = g.met.F.Field.inverses c.args.field })
-      c.args.width.unknowns _ c.unknowns.ensures refl refl;
-}
+pub returns-clause-log : goal.returns-clause-log
+returns-clause-log g c =
+    holds_opened _ (field_laws _ g.met.F.Ring.laws g.met.F.Field.inverses c.args.field) c.args.width.unknowns _ c.unknowns.ensures refl refl

@@ -1,9 +1,5 @@
-use Rattle.std.proofs.Common.{refl}
 use Rattle.recovery.proofs.Holding.{holds_ranked}
 use Rattle.recovery.proofs.collection.Collection.rank.Goals as goal
 
-pub returns : goal.returns
-returns g c = record {
-  count = refl;
-  log = λ n log h. holds_ranked (g.F.Ring.meaning c.args.self.now.field) n c.args.self.now.table log h;
-}
+pub returns-clause-log : goal.returns-clause-log
+returns-clause-log g c = λ n log h. holds_ranked _ n c.args.self.now.table log h
