@@ -1,20 +1,25 @@
 -- Replies to questions.
-use Rattle.std.proofs.Common.{◌≡◌, ℕ, ◌∙◌, subst}
+use Rattle.std.proofs.Common.{◌≡◌, ℕ, List, Result, MutBor, ◌∙◌}
+use Rattle.std.specs.Fn.{Once, FnOnceReturnsAtMut}
 use Rattle.algebra.specs.Meaning.{Meaning}
 use Rattle.linear.specs.Field.{FieldLaws}
-use Rattle.logs.specs.Offers.{Log}
-use Rattle.logs.specs.Questions.{Question, Answers}
-use Rattle.logs.specs.Questions.{Reply as LogReply}
+use Rattle.logs.specs.declared.refusal.Refusal.{Refusal}
+use Rattle.logs.specs.Questions.{Question, wrote}
 use Rattle.logs.proofs.Replying.{one_reply}
 use Rattle.recovery.specs.declared.table.Table.{Table}
 use Rattle.pass.specs.declared.asking.Question.{Question as Asked}
 use Rattle.pass.specs.declared.asking.Reply.{Reply}
-use Rattle.pass.specs.Questions.{questioned, replied, Replied}
+use Rattle.pass.specs.Questions.{questioned, replied, Replied, Told}
 use Rattle.pass.specs.Comparisons.{Alike}
 
--- an answer stays one where the question and the reply are the same
-pub answered : (m : Meaning) (n : ℕ) (log : Log) (q p : Question) (a b : LogReply) → q ≡ p → a ≡ b → Answers m n log q a → Answers m n log p b
-answered m n log q p a b e f h = subst (λ x. Answers m n log x b) e (subst (λ x. Answers m n log q x) f h)
+-- what was written to a slice of zeros is the reply, where each call answers the question about the content of its slice
+pub wrote_replied : (m : Meaning) (t : Table) (question : List ℕ → Question) (zeros : List ℕ) {A : Type 0}
+    (g : Once A (MutBor (List ℕ) × Unit {0}) (Result (Unit {0}) Refusal × (MutBor (List ℕ) × Unit {0}))) (ask : A)
+    → ((shown left : MutBor (List ℕ)) (r : Result (Unit {0}) Refusal) → g.post ask (shown, tt) (r, (left, tt)) → Told m t question shown.now r left.now)
+    → (reply : Reply) → ((r : Result (Unit {0}) Refusal) × (written : List ℕ) × (replied reply ≡ wrote r written) × FnOnceReturnsAtMut g ask zeros r written)
+    → Replied m t (question zeros) reply
+wrote_replied m t question zeros g ask answers reply h n log held =
+    rw (h.2, ← h.3.leaves, ← h.3.shows) (answers _ _ _ h.3.met n log held)
 
 -- one reply on each side tells of all
 pub replied_alike : (m k : Meaning) → FieldLaws m → FieldLaws k → (n : ℕ) (s t : Table) (q : Asked) (x y : Reply)

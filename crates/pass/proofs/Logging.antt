@@ -15,12 +15,6 @@ use Rattle.pass.specs.Recordings.{asked, asked_by, asked_in, logged, log_of, Mak
 log_push : (es : List Event) (e : Event) → log_of (es ++ (e ∷ [])) ≡ logged e ∷ log_of es
 log_push es e = ap reverse (map_push logged es e) ∙ reverse-append (map logged es) (logged e ∷ [])
 
-pub none_made : (m : Meaning) (t : Table) (es : List Event) → es ≡ [] → MakesAll m [] t t es
-none_made m t es e = record {
-  asks = ap (λ es. asked_in (log_of es)) e;
-  adds = λ n log h. subst (λ es. Holds m n (log_of es ++ log) t) (sym e) h;
-}
-
 -- one call more
 pub more_made : (m : Meaning) (calls : List Call) (call : Call) (t u v : Table) (es new : List Event) (e : Event)
     → MakesAll m calls t u es → Makes m (asked call) u v e → new ≡ es ++ (e ∷ []) → MakesAll m (calls ++ (call ∷ [])) t v new

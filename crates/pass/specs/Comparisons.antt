@@ -1,5 +1,6 @@
 -- What a comparison of two published forms finds.
-use Rattle.std.specs.Prelude.{◌≡◌, ℕ, ◌<◌, ◌≢◌, ◌↔◌, Some, None, Option}
+use Rattle.std.specs.Prelude.{◌≡◌, ℕ, ◌<◌, ◌≢◌, ◌↔◌, List, length, take, slice_index_or, Some, None, Option}
+use Rattle.std.specs.List.{All}
 use Rattle.algebra.specs.Meaning.{Meaning, OneMeaning}
 use Rattle.logs.specs.Offers.{Log}
 use Rattle.logs.specs.Promises.{LeaveTheSame, AnswerAlike}
@@ -25,15 +26,11 @@ module _ (m k : Meaning) (n : ℕ) (s t : Table) where
     pub second : Replied k t (questioned n d.question) d.second
     pub apart : replied d.first ≢ replied d.second
 
-  -- by one question
-  abbrev pub ComparedAt : Question → Option Difference → Type 0
-  ComparedAt q None = Alike q
-  ComparedAt q (Some d) = (d.question ≡ q) × Differs d
-
-  -- the first of n numbered questions
-  abbrev pub FirstOf : (ℕ → Question) → Option Difference → Type 0
-  FirstOf ask None = (i : ℕ) → i < n → Alike (ask i)
-  FirstOf ask (Some d) = (i : ℕ) × (i < n) × (d.question ≡ ask i) × Differs d × ((x : ℕ) → x < i → Alike (ask x))
+  -- the first of some questions
+  abbrev pub FirstAmong : List Question → Option Difference → Type 0
+  FirstAmong asked None = All Alike asked
+  FirstAmong asked (Some d) =
+      (i : ℕ) × (i < length asked) × (d.question ≡ slice_index_or asked i d.question) × Differs d × All Alike (take i asked)
 
   -- the question is one of those asked, and those before it are answered alike: the solution, then the kernel vectors, then the
   -- unknowns

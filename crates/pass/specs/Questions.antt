@@ -1,7 +1,8 @@
 -- Questions and replies as the logs have them.
-use Rattle.std.specs.Prelude.{ℕ, replicate, vec_items}
+use Rattle.std.specs.Prelude.{ℕ, List, Result, replicate, vec_items}
 use Rattle.algebra.specs.Meaning.{Meaning}
 use Rattle.logs.specs.Offers.{Log}
+use Rattle.logs.specs.declared.refusal.Refusal.{Refusal}
 use Rattle.logs.specs.Questions.{solution, kernel, unknown, wrote, said, Answers}
 use Rattle.logs.specs.Questions.{Question as LogQuestion, Reply as LogReply}
 use Rattle.recovery.specs.declared.table.Table.{Table}
@@ -24,3 +25,7 @@ replied (Said result) = said result
 -- the reply is an answer, after each log that the table holds
 abbrev pub Replied : Meaning → Table → LogQuestion → Reply → Type 0
 Replied m t question reply = (n : ℕ) (log : Log) → Holds m n log t → Answers m n log question (replied reply)
+
+-- what a call on a slice gave, and left there, answers a question about the slice's content, after each log that the table holds
+abbrev pub Told : Meaning → Table → (List ℕ → LogQuestion) → List ℕ → Result (Unit {0}) Refusal → List ℕ → Type 0
+Told m t question before r after = (n : ℕ) (log : Log) → Holds m n log t → Answers m n log (question before) (wrote r after)

@@ -60,7 +60,7 @@ pub record Recorded (m : Meaning) (n : ℕ) (calls : List Call) (events : List E
   pub holds : Holds m n (log_of events) table
   pub promises : Promises m n (log_of events)
 
--- nothing is recorded: 1 where the number of unknowns is no width; else memory ran out
+-- nothing is recorded: refused where the number of unknowns is no width; else memory ran out
 abbrev pub Stopped : ℕ → Stop → Type 0
 Stopped n (Refused r) = (is_width n ≡ false) × (r ≡ refusal.Width)
 Stopped n (OutOfMemory e) = is_width n ≡ true

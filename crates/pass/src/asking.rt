@@ -1,7 +1,8 @@
 // Asking a published form: questions and replies as values.
-ghost use Rattle.std.specs.Prelude.{◌≡◌, replicate, IfOk, Decides};
-ghost use Rattle.logs.specs.Questions.{solution as about_solution, kernel as about_kernel};
-ghost use Rattle.pass.specs.Questions.{questioned, replied, Replied};
+ghost use Rattle.std.specs.Prelude.{◌≡◌, ℕ, List, replicate, IfOk};
+ghost use Rattle.std.specs.Fn.{FnOnceReturnsAtMut};
+ghost use Rattle.logs.specs.Questions.{wrote, solution, kernel};
+ghost use Rattle.pass.specs.Questions.{questioned, replied, Replied, Told};
 
 use algebra::field::Field;
 use algebra::ring::Ring;
@@ -11,7 +12,7 @@ use recovery::published::Published;
 use std::alloc::{AllocError, Global};
 
 // A question to a published form.
-#[derive(Clone, Copy, Debug)]
+#[derive(Clone, Copy, PartialEq, Eq, Debug)]
 pub enum Question {
     Solution,
     Kernel(usize),
@@ -19,7 +20,7 @@ pub enum Question {
 }
 
 // What a published form answers.
-#[derive(Drop)]
+#[derive(PartialEq, Eq, Debug, Drop)]
 pub enum Reply {
     // The result, and what the slice lent for the vector holds after it.
     Wrote {
@@ -39,68 +40,34 @@ pub fn ask<F: Field + Drop>(
     ensures { IfOk result (Replied (F.Ring.meaning published.now.field) published.now.table (questioned unknowns question)) }
 {
     match question {
-        Question::Solution => ask_solution(heap, unknowns, published),
-        Question::Kernel(k) => ask_kernel(heap, unknowns, published, k),
+        Question::Solution => ask_into(
+            heap,
+            unknowns,
+            |out: &mut [u32]|
+                ensures { Told (F.Ring.meaning published.entry.now.field) published.entry.now.table solution out.old result out.new }
+            { published.solution(out) },
+        ),
+        Question::Kernel(k) => ask_into(
+            heap,
+            unknowns,
+            |out: &mut [u32]|
+                ensures { Told (F.Ring.meaning published.entry.now.field) published.entry.now.table (kernel k) out.old result out.new }
+            { published.kernel(k, out) },
+        ),
         Question::Unknown(j) => Ok(Reply::Said(published.unknown(j))),
     }
 }
 
-fn ask_solution<F: Field + Drop>(
+// Asks what wants a slice.
+fn ask_into<A: FnOnce(&mut [u32]) -> Result<(), Refusal>>(
     heap: Global,
     unknowns: usize,
-    published: &Published<F>,
+    ask: A,
 ) -> Result<Reply, AllocError>
-    ensures { IfOk result (Replied (F.Ring.meaning published.now.field) published.now.table (about_solution (replicate unknowns 0))) }
+    requires { A.IsAlwaysCallable ask }
+    ensures { IfOk result (λ reply. (r : _) × (written : List ℕ) × (replied reply ≡ wrote r written) × FnOnceReturnsAtMut A.FnOnce ask (replicate unknowns 0) r written) }
 {
     let mut content = vec![in heap; 0u32; unknowns]?;
-    let result = published.solution(&mut content);
+    let result = ask(&mut content);
     Ok(Reply::Wrote { result, content })
-}
-
-fn ask_kernel<F: Field + Drop>(
-    heap: Global,
-    unknowns: usize,
-    published: &Published<F>,
-    k: usize,
-) -> Result<Reply, AllocError>
-    ensures { IfOk result (Replied (F.Ring.meaning published.now.field) published.now.table (about_kernel k (replicate unknowns 0))) }
-{
-    let mut content = vec![in heap; 0u32; unknowns]?;
-    let result = published.kernel(k, &mut content);
-    Ok(Reply::Wrote { result, content })
-}
-
-// Whether two replies are the same.
-pub(crate) fn is_same(a: &Reply, b: &Reply) -> bool
-    ensures { Decides result (replied a.now ≡ replied b.now) }
-{
-    match (a, b) {
-        (
-            Reply::Wrote { result, content },
-            Reply::Wrote {
-                result: other,
-                content: written,
-            },
-        ) => is_same_result(result, other) && is_same_content(content, written),
-        (Reply::Said(result), Reply::Said(other)) => is_same_symbol(result, other),
-        _ => false,
-    }
-}
-
-fn is_same_result(a: &Result<(), Refusal>, b: &Result<(), Refusal>) -> bool
-    ensures { Decides result (a.now ≡ b.now) }
-{
-    a == b
-}
-
-fn is_same_content(a: &[u32], b: &[u32]) -> bool
-    ensures { Decides result (a.now ≡ b.now) }
-{
-    a == b
-}
-
-fn is_same_symbol(a: &Result<Symbol, Refusal>, b: &Result<Symbol, Refusal>) -> bool
-    ensures { Decides result (a.now ≡ b.now) }
-{
-    a == b
 }

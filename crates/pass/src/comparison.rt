@@ -1,21 +1,38 @@
 // Comparing two published forms by what they answer.
-ghost use Rattle.std.specs.Prelude.{IfOk};
-ghost use Rattle.pass.specs.declared.asking.Question.TheVariants.{Kernel, Unknown};
-ghost use Rattle.pass.specs.Comparisons.{ComparedAt, FirstOf, First, Compared};
-ghost use Rattle.pass.specs.Questions.{questioned, Replied};
+ghost use Rattle.std.specs.Prelude.{◌≡◌, ◌≢◌, List, IfOk, MatchOption};
+ghost use Rattle.std.specs.Iterator.{AlwaysYields, IsFinite};
+ghost use Rattle.pass.specs.Comparisons.{FirstAmong, Compared};
+ghost use Rattle.pass.specs.Questions.{replied};
 
-use crate::asking::{Question, Reply, ask, is_same};
+use crate::asking::{Question, Reply, ask};
 use algebra::field::Field;
 use algebra::ring::Ring;
 use recovery::published::Published;
 use std::alloc::{AllocError, Global};
+use std::iter::once;
 
 // A question with two replies to it that are not the same.
-#[derive(Drop)]
+#[derive(PartialEq, Eq, Debug, Drop)]
 pub struct Difference {
     pub question: Question,
     pub first: Reply,
     pub second: Reply,
+}
+
+impl Difference {
+    // Two replies to a question, if they are not the same.
+    fn between(question: Question, first: Reply, second: Reply) -> Option<Difference>
+        ensures { MatchOption result (replied first ≡ replied second) (λ d. (d ≡ record { question = question; first = first; second = second }) × (replied first ≢ replied second)) }
+    {
+        if first == second {
+            return None;
+        }
+        Some(Difference {
+            question,
+            first,
+            second,
+        })
+    }
 }
 
 // Asks both forms for the solution, then for each kernel vector, then of each of so many unknowns, and gives the first question
@@ -28,91 +45,30 @@ pub fn compare<F: Field + Drop, G: Field + Drop>(
 ) -> Result<Option<Difference>, AllocError>
     ensures { IfOk result (Compared (F.Ring.meaning a.now.field) (G.Ring.meaning b.now.field) unknowns a.now.table b.now.table) }
 {
-    first_difference(heap, unknowns, a, b)
+    let kernels = (0..unknowns).map(Question::Kernel);
+    let each_unknown = (0..unknowns).map(Question::Unknown);
+    let questions = once(Question::Solution).chain(kernels).chain(each_unknown);
+    first_difference(heap, unknowns, a, b, questions)
 }
 
-fn first_difference<F: Field + Drop, G: Field + Drop>(
+// The first of the questions that the forms answer differently.
+fn first_difference<F: Field + Drop, G: Field + Drop, Q: Iterator<Item = Question> + Drop>(
     heap: Global,
     unknowns: usize,
     a: &Published<F>,
     b: &Published<G>,
+    questions: Q,
 ) -> Result<Option<Difference>, AllocError>
-    ensures { IfOk result (First (F.Ring.meaning a.now.field) (G.Ring.meaning b.now.field) unknowns a.now.table b.now.table) }
+    requires can { Q.can_next questions }
+    requires ends { IsFinite (Q.remaining questions) }
+    ensures { (asked : List Question) → AlwaysYields Q.next_gives (λ question. question) questions asked → IfOk result (FirstAmong (F.Ring.meaning a.now.field) (G.Ring.meaning b.now.field) unknowns a.now.table b.now.table asked) }
 {
-    if let Some(difference) = compare_at(heap, unknowns, a, b, Question::Solution)? {
-        return Ok(Some(difference));
-    }
-    if let Some(difference) = compare_kernels(heap, unknowns, a, b)? {
-        return Ok(Some(difference));
-    }
-    compare_unknowns(heap, unknowns, a, b)
-}
-
-// The first kernel vector that the forms answer differently.
-fn compare_kernels<F: Field + Drop, G: Field + Drop>(
-    heap: Global,
-    unknowns: usize,
-    a: &Published<F>,
-    b: &Published<G>,
-) -> Result<Option<Difference>, AllocError>
-    ensures { IfOk result (FirstOf (F.Ring.meaning a.now.field) (G.Ring.meaning b.now.field) unknowns a.now.table b.now.table Kernel) }
-{
-    for k in 0..unknowns {
-        if let Some(difference) = compare_at(heap, unknowns, a, b, Question::Kernel(k))? {
+    for question in questions {
+        let first = ask(heap, unknowns, a, question)?;
+        let second = ask(heap, unknowns, b, question)?;
+        if let Some(difference) = Difference::between(question, first, second) {
             return Ok(Some(difference));
         }
     }
     Ok(None)
-}
-
-// The first unknown of which the forms answer differently.
-fn compare_unknowns<F: Field + Drop, G: Field + Drop>(
-    heap: Global,
-    unknowns: usize,
-    a: &Published<F>,
-    b: &Published<G>,
-) -> Result<Option<Difference>, AllocError>
-    ensures { IfOk result (FirstOf (F.Ring.meaning a.now.field) (G.Ring.meaning b.now.field) unknowns a.now.table b.now.table Unknown) }
-{
-    for j in 0..unknowns {
-        if let Some(difference) = compare_at(heap, unknowns, a, b, Question::Unknown(j))? {
-            return Ok(Some(difference));
-        }
-    }
-    Ok(None)
-}
-
-// Whether the forms answer one question differently.
-fn compare_at<F: Field + Drop, G: Field + Drop>(
-    heap: Global,
-    unknowns: usize,
-    a: &Published<F>,
-    b: &Published<G>,
-    question: Question,
-) -> Result<Option<Difference>, AllocError>
-    ensures { IfOk result (ComparedAt (F.Ring.meaning a.now.field) (G.Ring.meaning b.now.field) unknowns a.now.table b.now.table question) }
-{
-    let (first, second) = ask_both(heap, unknowns, a, b, question)?;
-    if is_same(&first, &second) {
-        return Ok(None);
-    }
-    Ok(Some(Difference {
-        question,
-        first,
-        second,
-    }))
-}
-
-fn ask_both<F: Field + Drop, G: Field + Drop>(
-    heap: Global,
-    unknowns: usize,
-    a: &Published<F>,
-    b: &Published<G>,
-    question: Question,
-) -> Result<(Reply, Reply), AllocError>
-    ensures { IfOk result (λ x. Replied (F.Ring.meaning a.now.field) a.now.table (questioned unknowns question) x.0 × Replied (G.Ring.meaning b.now.field) b.now.table (questioned unknowns question) x.1) }
-{
-    let first = ask(heap, unknowns, a, question)?;
-    let second = ask(heap, unknowns, b, question)?;
-    Ok((first, second))
 }

@@ -14,7 +14,7 @@ use recovery::width::Width;
 use std::alloc::{AllocError, Global};
 
 // A call on a collection.
-#[derive(Drop)]
+#[derive(PartialEq, Eq, Debug, Drop)]
 pub enum Call {
     // An equation, and what the slice lent for weights holds.
     Offer {
@@ -26,7 +26,7 @@ pub enum Call {
 }
 
 // A call with its answer.
-#[derive(Drop)]
+#[derive(PartialEq, Eq, Debug, Drop)]
 pub enum Event {
     // The slice for weights is shown as it was before the call and as it is after it.
     Offered {
@@ -46,7 +46,7 @@ pub struct Recording<F: Field + Drop> {
     pub published: Published<F>,
 }
 
-// Opens a collection, makes the calls in their order, and publishes. Refuses 1 where the number of unknowns is not from 1 to 64.
+// Opens a collection, makes the calls in their order, and publishes. Refuses where the number of unknowns is not from 1 to 64.
 pub fn record<F: Field + Drop>(
     heap: Global,
     field: F,

@@ -5,7 +5,7 @@ ghost use Rattle.pass.specs.declared.stop.Stop.TheVariants.{Refused, OutOfMemory
 use logs::refusal::Refusal;
 use std::alloc::AllocError;
 
-#[derive(Clone, Copy, Debug)]
+#[derive(Clone, Copy, PartialEq, Eq, Debug)]
 pub enum Stop {
     Refused(Refusal),
     OutOfMemory(AllocError),

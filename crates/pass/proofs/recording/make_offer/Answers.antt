@@ -1,9 +1,8 @@
 -- The event has the offer as it was made, and the weights as the call left them.
-use Rattle.std.proofs.Common.{◌≡◌, ◌∷◌, length, vec_items, sym, ap, ◌∙◌, subst, arith}
+use Rattle.std.proofs.Common.{◌≡◌, length, vec_items, ap, arith}
 use Rattle.std.specs.List.{each_same}
 use Rattle.std.proofs.lemmas.List.{with_items_is}
-use Rattle.logs.specs.Offers.{offer, offered}
-use Rattle.recovery.specs.Tables.{Holds}
+use Rattle.logs.specs.Offers.{offer}
 use Rattle.pass.specs.Recordings.{to_take}
 use Rattle.pass.proofs.recording.make_offer.Goals as goal
 
@@ -22,10 +21,6 @@ returns g c =
       made = record {
         asks = ap (λ ws. to_take (offer cs v ws)) same;
         adds = λ n log h.
-            subst (λ e. Holds m n (e ∷ log) c.offer-answer.new.self.table)
-            (ap (λ xs. offered (offer xs v c.deref_mut.result.now) a c.offer-answer.new.weights) c.deref.ensures.value
-            ∙ ap (λ ws. offered (offer cs v ws) a c.offer-answer.new.weights) (c.deref_mut.ensures.value ∙ sym same)
-            ∙ ap (λ ws. offered (offer cs v (vec_items c.in_ok-before.before)) a ws) (sym weights))
-            (c.offer-answer.ensures.log n log h);
+            simp (weights, same) (simp (c.deref.ensures.value, c.deref_mut.ensures.value) at (c.offer-answer.ensures.log n log h));
       };
     }

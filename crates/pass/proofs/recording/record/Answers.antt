@@ -1,8 +1,8 @@
 -- The calls are made on a fresh collection, and publication keeps its table.
-use Rattle.std.proofs.Common.{[], vec_items, sym, ◌∙◌, subst}
+use Rattle.std.proofs.Common.{[], vec_items}
 use Rattle.linear.specs.Field.{FieldLaws}
 use Rattle.recovery.specs.Tables.{Holds}
-use Rattle.pass.specs.Recordings.{MakesAll, Recorded}
+use Rattle.pass.specs.Recordings.{MakesAll}
 use Rattle.pass.proofs.Logging.{all_recorded}
 use Rattle.pass.proofs.recording.record.Goals as goal
 
@@ -16,9 +16,6 @@ returns g c =
     let es = vec_items c.in_ok-events.events in
     let t = c.open-collection.result.table in
     let u = c.make_all.new.collection.table in
-    let opened = subst (λ k. Holds m k [] t) c.in_ok-width.ensures.1 c.open-collection.ensures.log in
-    let made = subst (λ f. MakesAll (g.F.Ring.meaning f) calls t u es) c.open-collection.ensures.field c.in_ok-events.ensures.made in (
-      c.publish-published.ensures.field ∙ c.make_all.ensures.field ∙ c.open-collection.ensures.field,
-      subst (λ t. Recorded m n calls es t) (sym c.publish-published.ensures.table)
-          (all_recorded m laws n calls t u es c.in_ok-width.ensures.0 opened made),
-    )
+    let opened : Holds m n [] t = rw (← c.in_ok-width.ensures.1) c.open-collection.ensures.log in
+    let made : MakesAll m calls t u es = rw (← c.open-collection.ensures.field) c.in_ok-events.ensures.made in
+    (cc, rw c.publish-published.ensures.table (all_recorded m laws n calls t u es c.in_ok-width.ensures.0 opened made))

@@ -1,7 +1,0 @@
--- Slices match where their codes do.
-use Rattle.std.proofs.lemmas.Slice.Eq.{slice_eq-Decides}
-use Rattle.pass.proofs.asking.is_same_content.Goals as goal
-use Rattle.std.proofs.lemmas.Bool.Decides.{Decides-eqb}
-
-pub returns : goal.returns
-returns c = slice_eq-Decides Decides-eqb _ _ _ c.eq.ensures
