@@ -1,5 +1,5 @@
 // Whether collections answer as runs have it.
-ghost use Rattle.std.specs.Prelude.{◌≡◌, true, [], ◌∷◌, Ok, Decides};
+ghost use Rattle.std.specs.Prelude.{◌≡◌, true, [], ◌∷◌, Decides};
 ghost use Rattle.recovery.specs.Widths.{is_width};
 ghost use Rattle.runs.specs.Matching.{OffersMatch, RepliesMatch};
 ghost use Rattle.runs.specs.Runs.{Runs};
@@ -12,27 +12,6 @@ use recovery::collection::Collection;
 use recovery::published::Published;
 use recovery::width::Width;
 
-// Whether an answer is the expected one.
-fn is_answer(found: Result<Answer, Refusal>, expected: Answer) -> bool
-    ensures { Decides result (found ≡ Ok expected) }
-{
-    found == Ok(expected)
-}
-
-// Whether what is known of an unknown is as expected.
-fn is_symbol(found: Result<Symbol, Refusal>, expected: Symbol) -> bool
-    ensures { Decides result (found ≡ Ok expected) }
-{
-    found == Ok(expected)
-}
-
-// Whether a vector is the expected one.
-fn is_vector(found: &[u32], expected: &[u32]) -> bool
-    ensures { Decides result (found.now ≡ expected.now) }
-{
-    found == expected
-}
-
 // Offers the equation of a step: whether the answer and the weights are the step's.
 fn offer_matches<F: Field + Drop, const N: usize>(
     collection: &mut Collection<F>,
@@ -41,9 +20,9 @@ fn offer_matches<F: Field + Drop, const N: usize>(
     ensures field { collection.new.field ≡ collection.old.field }
     ensures matched { OffersMatch (F.Ring.meaning collection.old.field) N (step.now ∷ []) collection.old.table result collection.new.table }
 {
-    let weights: &mut [u32] = &mut [0; N];
-    let answer = collection.offer(&step.coefficients, step.value, weights);
-    is_answer(answer, step.answer) & is_vector(weights, &step.weights)
+    let mut weights = [0; N];
+    let answer = collection.offer(&step.coefficients, step.value, &mut weights);
+    answer == Ok(step.answer) && weights == step.weights
 }
 
 // Offers the equations of the steps, up to the first that does not match.
@@ -66,11 +45,11 @@ fn offers_match<F: Field + Drop, const N: usize>(
 fn reply_matches<F: Field + Drop, const N: usize>(published: &Published<F>, asked: Asked<N>) -> bool
     ensures { RepliesMatch (F.Ring.meaning published.now.field) N (asked.entry ∷ []) published.now.table result }
 {
-    let out: &mut [u32] = &mut [0; N];
+    let mut out = [0; N];
     match asked {
-        Asked::Solution(vector) => published.solution(out).is_ok() & is_vector(out, &vector),
-        Asked::Kernel(k, vector) => published.kernel(k, out).is_ok() & is_vector(out, &vector),
-        Asked::Unknown(j, symbol) => is_symbol(published.unknown(j), symbol),
+        Asked::Solution(vector) => published.solution(&mut out).is_ok() && out == vector,
+        Asked::Kernel(k, vector) => published.kernel(k, &mut out).is_ok() && out == vector,
+        Asked::Unknown(j, symbol) => published.unknown(j) == Ok(symbol),
     }
 }
 
