@@ -26,6 +26,7 @@ fn offer_matches<F: Field + Drop, const N: usize>(
 }
 
 // Offers the equations of the steps, up to the first that does not match.
+// It is a loop since nothing is proved of a closure in `all` that changes the collection.
 fn offers_match<F: Field + Drop, const N: usize>(
     collection: &mut Collection<F>,
     steps: &[Step<N>],
@@ -54,6 +55,7 @@ fn reply_matches<F: Field + Drop, const N: usize>(published: &Published<F>, aske
 }
 
 // Asks the questions, up to the first whose reply does not match.
+// It is a loop since a closure in `all` would have to repeat the clause of `reply_matches`.
 fn replies_match<F: Field + Drop, const N: usize>(
     published: &Published<F>,
     asked: &[Asked<N>],

@@ -15,5 +15,5 @@ pub fn worked_runs() -> bool
     ensures table { AllHold runs }
     ensures answered { result ≡ true }
 {
-    residue_runs() & octet_runs()
+    residue_runs() && octet_runs()
 }

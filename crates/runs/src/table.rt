@@ -116,16 +116,16 @@ pub(crate) fn residue_runs() -> bool
     ensures { AllHold runs → result ≡ true }
 {
     run_matches(Residues, &RESIDUE_PAIR, &[Asked::Solution([2, 1])])
-        & run_matches(Residues, &FIRST_ORDER, &ASKED_OF_EITHER)
-        & run_matches(Residues, &SECOND_ORDER, &ASKED_OF_EITHER)
-        & run_matches(Residues, &NO_COEFFICIENT, &[])
+        && run_matches(Residues, &FIRST_ORDER, &ASKED_OF_EITHER)
+        && run_matches(Residues, &SECOND_ORDER, &ASKED_OF_EITHER)
+        && run_matches(Residues, &NO_COEFFICIENT, &[])
 }
 
 pub(crate) fn octet_runs() -> bool
     ensures { AllHold runs → result ≡ true }
 {
     run_matches(OctetsByTable, &OCTET_PAIR, &[])
-        & run_matches(OctetsByTable, &NO_COEFFICIENT, &[])
-        & run_matches(OctetsByShifts, &OCTET_PAIR, &[])
-        & run_matches(OctetsByShifts, &NO_COEFFICIENT, &[])
+        && run_matches(OctetsByTable, &NO_COEFFICIENT, &[])
+        && run_matches(OctetsByShifts, &OCTET_PAIR, &[])
+        && run_matches(OctetsByShifts, &NO_COEFFICIENT, &[])
 }
