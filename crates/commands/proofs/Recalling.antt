@@ -18,23 +18,13 @@ use Rattle.commands.specs.declared.keyword.Keyword.TheVariants.{Field, Unknowns,
 use Rattle.commands.specs.declared.state.State.{State}
 use Rattle.commands.specs.declared.state.State.TheVariants.{Start, Named}
 use Rattle.commands.specs.Format.{does, names, equation, offer_of, arguments, said_by, said, Reading, goes_on, preceded, read_from, reading}
-use Rattle.commands.specs.Keywords.{keyword_of, keyword_named, keyword_text}
+use Rattle.commands.specs.Keywords.{keyword_of, keyword_text}
 use Rattle.commands.specs.Lawful.{InOrder, Small, Fits, Lawful}
 use Rattle.commands.specs.Order.{after, allowed, expected_in}
 use Rattle.commands.specs.Steps.{Step, unknowns, offer, rank, publish, solution, kernel, symbol, report}
 use Rattle.commands.specs.Written.{field_text, argument_words, step_words, field_words, written, ReadBack}
+use Rattle.commands.proofs.Naming.{named_back}
 use Rattle.commands.proofs.Ordering.{opens}
-
-named_back : (k : Keyword) → keyword_named (keyword_text k) ≡ Some k
-named_back Field = refl
-named_back Unknowns = refl
-named_back Offer = refl
-named_back Rank = refl
-named_back Publish = refl
-named_back Solution = refl
-named_back Kernel = refl
-named_back Symbol = refl
-named_back Report = refl
 
 -- a numeral is not the word `|`
 no_bar : (n : ℕ) → Small n → bytes_eq (decimal n) (codes "|") ≡ false

@@ -6,14 +6,15 @@ use Rattle.text.specs.Lines.{Lines, end, line, meaningful}
 use Rattle.text.specs.Numbers.{number}
 use Rattle.text.specs.Text.{lines}
 use Rattle.commands.specs.declared.command.FieldName.{FieldName}
-use Rattle.commands.specs.declared.command.FieldName.TheVariants.{Residues, Octets, OctetsByShifts}
+use Rattle.commands.specs.declared.command.FieldName.TheVariants.{Residues}
 use Rattle.commands.specs.declared.fault.Expected.{Expected}
 use Rattle.commands.specs.declared.fault.Expected.TheVariants as expected
-use Rattle.commands.specs.declared.fault.Fault.{Fault}
+use Rattle.text.specs.declared.fault.Fault.{Fault}
 use Rattle.commands.specs.declared.keyword.Keyword.{Keyword}
 use Rattle.commands.specs.declared.keyword.Keyword.TheVariants.{Field, Unknowns, Offer, Rank, Publish, Solution, Kernel, Symbol, Report}
 use Rattle.commands.specs.declared.state.State.{State}
 use Rattle.commands.specs.declared.state.State.TheVariants.{Start, Named}
+use Rattle.commands.specs.Fields.{field_named}
 use Rattle.commands.specs.Keywords.{keyword_named}
 use Rattle.commands.specs.Order.{after, allowed, expected_in}
 use Rattle.commands.specs.Steps.{Step, unknowns, offer, rank, publish, solution, kernel, symbol, report}
@@ -22,14 +23,6 @@ use Rattle.commands.specs.Steps.{Step, unknowns, offer, rank, publish, solution,
 pub data Saying : Type 0 where
   names : FieldName → Saying
   does : Step → Saying
-
--- the field of a name
-abbrev pub field_named : List ℕ → Option FieldName
-field_named w =
-    cond (bytes_eq w (codes "residues")) (Some Residues)
-    (cond (bytes_eq w (codes "octets")) (Some Octets)
-    (cond (bytes_eq w (codes "octets-by-shifts")) (Some OctetsByShifts)
-    None))
 
 -- what just one word says
 abbrev pub only : {A : Type 0} → (List ℕ → Option A) → List (List ℕ) → Option A
@@ -85,7 +78,7 @@ said s (w ∷ ws) = said_by s (keyword_named w) ws
 pub record Reading : Type 0 where
   pub field : FieldName
   pub steps : List Step
-  pub fault : Option Fault
+  pub fault : Option (Fault Expected)
 
 -- a step before a reading
 abbrev pub preceded : Step → Reading → Reading

@@ -1,8 +1,7 @@
--- The message of a fault.
-use Rattle.std.specs.Prelude.{ℕ, List, ◌++◌, codes, decimal}
+-- What was expected where a text does not fit.
+use Rattle.std.specs.Prelude.{ℕ, List, ◌++◌, codes}
 use Rattle.commands.specs.declared.fault.Expected.{Expected}
 use Rattle.commands.specs.declared.fault.Expected.TheVariants.{FieldOrUnknowns, Unknowns, Collecting, Published, FieldName, Equation, Number, Nothing}
-use Rattle.commands.specs.declared.fault.Fault.{Fault}
 use Rattle.commands.specs.Keywords.{keyword_text}
 
 abbrev pub expected_text : Expected → List ℕ
@@ -14,6 +13,3 @@ expected_text FieldName = codes "one field after `field`: residues, octets or oc
 expected_text Equation = codes "whole numbers below 2^32, `|` and one whole number after `offer`"
 expected_text (Number k) = codes "one whole number below 2^32 after `" ++ (keyword_text k ++ codes "`")
 expected_text (Nothing k) = codes "nothing after `" ++ (keyword_text k ++ codes "`")
-
-abbrev pub fault_text : Fault → List ℕ
-fault_text f = codes "line " ++ (decimal f.line ++ (codes ": expected " ++ expected_text f.expected))

@@ -1,11 +1,30 @@
 // What a text asks for on a pass: equations are offered to a block and published, and then questions are asked.
+ghost use Rattle.commands.specs.Fields.{field_named};
+ghost use Rattle.commands.specs.Keywords.{Names};
+
+use crate::keyword::UnknownWord;
 
 // The field that a pass is computed in.
-#[derive(Clone, Copy)]
+#[derive(Clone, Copy, Debug, PartialEq, Eq)]
 pub enum FieldName {
     Residues,
     Octets,
     OctetsByShifts,
+}
+
+impl TryFrom<&[u8]> for FieldName {
+    type Error = UnknownWord;
+
+    ghost try_from_gives = { λ w r. Names (field_named w.now) r };
+
+    fn try_from(name: &[u8]) -> Result<FieldName, UnknownWord> {
+        match name {
+            b"residues" => Ok(FieldName::Residues),
+            b"octets" => Ok(FieldName::Octets),
+            b"octets-by-shifts" => Ok(FieldName::OctetsByShifts),
+            _ => Err(UnknownWord),
+        }
+    }
 }
 
 #[derive(Drop)]

@@ -1,11 +1,10 @@
 // The words that commands begin with.
-ghost use Rattle.std.specs.Prelude.{◌≡◌, Some};
-ghost use Rattle.commands.specs.Keywords.{keyword_named, keyword_text};
+ghost use Rattle.std.specs.Prelude.{Some};
+ghost use Rattle.commands.specs.Keywords.{keyword_named, keyword_text, Names};
 
 use std::fmt;
-use text::words::is_same;
 
-#[derive(Clone, Copy)]
+#[derive(Clone, Copy, Debug, PartialEq, Eq)]
 pub enum Keyword {
     Field,
     Unknowns,
@@ -18,29 +17,28 @@ pub enum Keyword {
     Report,
 }
 
-pub(crate) fn parse_keyword(word: &[u8]) -> Option<Keyword>
-    ensures { result ≡ keyword_named word.now }
-{
-    if is_same(word, b"field") {
-        Some(Keyword::Field)
-    } else if is_same(word, b"unknowns") {
-        Some(Keyword::Unknowns)
-    } else if is_same(word, b"offer") {
-        Some(Keyword::Offer)
-    } else if is_same(word, b"rank") {
-        Some(Keyword::Rank)
-    } else if is_same(word, b"publish") {
-        Some(Keyword::Publish)
-    } else if is_same(word, b"solution") {
-        Some(Keyword::Solution)
-    } else if is_same(word, b"kernel") {
-        Some(Keyword::Kernel)
-    } else if is_same(word, b"symbol") {
-        Some(Keyword::Symbol)
-    } else if is_same(word, b"report") {
-        Some(Keyword::Report)
-    } else {
-        None
+// The word is none of those that can stand in its place.
+#[derive(Clone, Copy, Debug, PartialEq, Eq)]
+pub struct UnknownWord;
+
+impl TryFrom<&[u8]> for Keyword {
+    type Error = UnknownWord;
+
+    ghost try_from_gives = { λ w r. Names (keyword_named w.now) r };
+
+    fn try_from(word: &[u8]) -> Result<Keyword, UnknownWord> {
+        match word {
+            b"field" => Ok(Keyword::Field),
+            b"unknowns" => Ok(Keyword::Unknowns),
+            b"offer" => Ok(Keyword::Offer),
+            b"rank" => Ok(Keyword::Rank),
+            b"publish" => Ok(Keyword::Publish),
+            b"solution" => Ok(Keyword::Solution),
+            b"kernel" => Ok(Keyword::Kernel),
+            b"symbol" => Ok(Keyword::Symbol),
+            b"report" => Ok(Keyword::Report),
+            _ => Err(UnknownWord),
+        }
     }
 }
 
@@ -48,16 +46,16 @@ impl fmt::Display for Keyword {
     ghost output = { λ k. Some (keyword_text k) };
 
     fn fmt<W: fmt::Write>(&self, f: &mut fmt::Formatter<W>) -> fmt::Result {
-        match self {
-            Keyword::Field => write!(f, "field"),
-            Keyword::Unknowns => write!(f, "unknowns"),
-            Keyword::Offer => write!(f, "offer"),
-            Keyword::Rank => write!(f, "rank"),
-            Keyword::Publish => write!(f, "publish"),
-            Keyword::Solution => write!(f, "solution"),
-            Keyword::Kernel => write!(f, "kernel"),
-            Keyword::Symbol => write!(f, "symbol"),
-            Keyword::Report => write!(f, "report"),
-        }
+        f.write_str(match self {
+            Keyword::Field => "field",
+            Keyword::Unknowns => "unknowns",
+            Keyword::Offer => "offer",
+            Keyword::Rank => "rank",
+            Keyword::Publish => "publish",
+            Keyword::Solution => "solution",
+            Keyword::Kernel => "kernel",
+            Keyword::Symbol => "symbol",
+            Keyword::Report => "report",
+        })
     }
 }

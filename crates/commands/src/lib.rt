@@ -6,7 +6,6 @@ pub mod fault;
 pub mod keyword;
 pub mod reading;
 mod state;
-mod stop;
 #[cfg(test)]
 mod tests;
 mod words;

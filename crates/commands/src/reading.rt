@@ -14,7 +14,7 @@ use crate::state::{State, state_after};
 use crate::words::{Said, parse_line};
 use std::alloc::{AllocError, Global};
 use text::cursor::Cursor;
-use text::lines::Next;
+use text::lines::Line;
 
 // The field and the commands of a text up to its end or to the first fault.
 #[derive(Drop)]
@@ -34,39 +34,34 @@ pub fn parse(heap: Global, text: &[u8]) -> Result<Parsed, AllocError>
 }
 
 // Reads the lines from a cursor on.
-fn read_lines(heap: Global, cursor: Cursor<'_>) -> Result<Parsed, AllocError>
+fn read_lines(heap: Global, mut cursor: Cursor<'_>) -> Result<Parsed, AllocError>
     ensures { IfOk result (λ p. reading_of p ≡ read_from Start Residues (left cursor.entry)) }
 {
-    let mut field = FieldName::Residues;
-    let mut commands = Vec::new(heap);
+    let mut parsed = Parsed {
+        field: FieldName::Residues,
+        commands: Vec::new(heap),
+        fault: None,
+    };
     let mut state = State::Start;
-    let mut cursor = cursor;
-    while let Next::Line { number, text } = cursor.next_line() {
+    while let Ok(Line { number, text }) = cursor.next_line() {
         match parse_line(heap, state, text) {
             Ok(Said::Field(name)) => {
-                field = name;
+                parsed.field = name;
                 state = State::Named;
             }
             Ok(Said::Command(command)) => {
                 state = state_after(&command);
-                commands.push(command)?;
+                parsed.commands.push(command)?;
             }
             Err(stop) => {
-                let expected = stop.into_expected()?;
-                return Ok(Parsed {
-                    field,
-                    commands,
-                    fault: Some(Fault {
-                        line: number,
-                        expected,
-                    }),
+                let expected = stop.into_malformed()?;
+                parsed.fault = Some(Fault {
+                    line: number,
+                    expected,
                 });
+                return Ok(parsed);
             }
         }
     }
-    Ok(Parsed {
-        field,
-        commands,
-        fault: None,
-    })
+    Ok(parsed)
 }

@@ -1,5 +1,6 @@
 // Texts with what is read from them.
 use crate::command::{Command, FieldName};
+use crate::keyword::{Keyword, UnknownWord};
 use crate::reading::parse;
 use std::alloc::Global;
 use std::process::Abort;
@@ -113,4 +114,18 @@ fn finds_faults_of_words(rt: HostRuntime) -> Result<(), Fail> {
         1,
         "line 2: expected nothing after `rank`",
     )
+}
+
+#[test]
+fn names_keywords_and_fields(rt: HostRuntime) {
+    assert_eq!(rt;
+        Keyword::try_from(b"report".as_slice()),
+        Ok(Keyword::Report)
+    );
+    assert_eq!(rt; Keyword::try_from(b"reports".as_slice()), Err(UnknownWord));
+    assert_eq!(rt;
+        FieldName::try_from(b"octets".as_slice()),
+        Ok(FieldName::Octets)
+    );
+    assert_eq!(rt; FieldName::try_from(b"".as_slice()), Err(UnknownWord));
 }
