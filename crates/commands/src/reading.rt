@@ -34,6 +34,7 @@ pub fn parse(heap: Global, text: &[u8]) -> Result<Parsed, AllocError>
 }
 
 // Reads the lines from a cursor on.
+#[tactic(auto, using(crate::proofs::Going::one_more))]
 fn read_lines(heap: Global, mut cursor: Cursor<'_>) -> Result<Parsed, AllocError>
     ensures { IfOk result (λ p. reading_of p ≡ read_from Start Residues (left cursor.entry)) }
 {
