@@ -17,6 +17,7 @@ impl TryFrom<&[u8]> for FieldName {
 
     ghost try_from_gives = { λ w r. Names (field_named w.now) r };
 
+    #[tactic(auto, using(crate::proofs::Naming::fields_read))]
     fn try_from(name: &[u8]) -> Result<FieldName, UnknownWord> {
         match name {
             b"residues" => Ok(FieldName::Residues),

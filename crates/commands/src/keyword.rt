@@ -26,6 +26,7 @@ impl TryFrom<&[u8]> for Keyword {
 
     ghost try_from_gives = { λ w r. Names (keyword_named w.now) r };
 
+    #[tactic(auto, using(crate::proofs::Naming::keywords_read))]
     fn try_from(word: &[u8]) -> Result<Keyword, UnknownWord> {
         match word {
             b"field" => Ok(Keyword::Field),
