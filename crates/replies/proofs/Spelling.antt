@@ -5,7 +5,8 @@ use Rattle.std.specs.declared.alloc.AllocError.{AllocError}
 use Rattle.std.specs.declared.alloc.Global.{Global}
 use Rattle.std.specs.List.{flat_map}
 use Rattle.std.proofs.lemmas.List.{drop_all}
-use Rattle.requests.specs.Written.{line_of, spaced, row_words}
+use Rattle.requests.specs.Written.{row_words}
+use Rattle.text.specs.Canonical.{line_of, spaced}
 
 -- a blank and a number
 abbrev pub other : ℕ → List ℕ

@@ -3,7 +3,8 @@ use Rattle.std.specs.Prelude.{ℕ, List, [], ◌∷◌, ◌++◌, Ok, Err, codes
 use Rattle.std.specs.List.{flat_map}
 use Rattle.algebra.specs.Matrix.{Matrix}
 use Rattle.algebra.specs.Outcome.{Told}
-use Rattle.requests.specs.Written.{line_of, row_words}
+use Rattle.requests.specs.Written.{row_words}
+use Rattle.text.specs.Canonical.{line_of}
 
 -- the values that a refusal carries, if any: a window and a position
 abbrev pub value_words : List ℕ → List (List ℕ)

@@ -2,7 +2,7 @@
 ghost use Rattle.std.specs.Prelude.{◌≡◌, [], ◌∷◌, ◌++◌, map, IfOk, string_bytes, decimal};
 ghost use Rattle.std.specs.List.{flat_map};
 ghost use Rattle.requests.specs.Asked.{matrix_of};
-ghost use Rattle.requests.specs.Written.{line_of, spaced};
+ghost use Rattle.text.specs.Canonical.{line_of, spaced};
 ghost use Rattle.replies.specs.Replies.{replied};
 ghost use Rattle.replies.specs.ReplyText.{product_text, refusal_text, reply_text};
 ghost use Rattle.windows.specs.Refusals.{told};

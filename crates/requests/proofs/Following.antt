@@ -1,13 +1,14 @@
 -- One step of reading after another, and that each request takes at least a line.
-use Rattle.std.proofs.Common.{◌≡◌, ℕ, suc, List, ◌++◌, Ok, Err, sym, refl, ap, ◌∙◌, subst, arith}
+use Rattle.std.proofs.Common.{◌≡◌, ℕ, suc, ◌+◌, ◌-◌, ◌<◌, ◌≤◌, List, ◌++◌, Ok, Err, sym, refl, ap, ◌∙◌, subst, arith}
 use Rattle.std.proofs.lemmas.List.{append_assoc, append-nil}
+use Rattle.text.specs.declared.fault.Fault.{Fault}
 use Rattle.requests.specs.declared.fault.Expected.{Expected}
-use Rattle.requests.specs.declared.fault.Fault.{Fault}
 use Rattle.requests.specs.declared.request.RingName.{RingName}
-use Rattle.requests.specs.declared.stop.Stop.{Stop}
-use Rattle.requests.specs.declared.stop.Stop.TheVariants.{Malformed, OutOfMemory}
-use Rattle.requests.specs.Cursors.{preceded, Gives}
-use Rattle.requests.specs.Format.{Lines, line, Reading, read, fails, fault, and_then, judged, command, read_sides, read_row, read_rows, row_lines, read_matrix, read_request}
+use Rattle.text.specs.declared.stop.Stop.{Stop}
+use Rattle.text.specs.declared.stop.Stop.TheVariants.{Malformed}
+use Rattle.requests.specs.Giving.{preceded, Gives}
+use Rattle.text.specs.Lines.{Lines, line}
+use Rattle.requests.specs.Format.{Reading, read, fails, fault, and_then, judged, command, read_sides, read_row, read_rows, row_lines, read_matrix, read_request}
 use Rattle.algebra.specs.Matrix.{Matrix}
 use Rattle.requests.specs.Asked.{product}
 
@@ -24,49 +25,56 @@ row_then xs ys (read zs ls) rest f e =
     preceded_twice xs zs (f ls) ∙ (ap (λ l. preceded l (f ls)) same ∙ ap (λ l. preceded ys (f l)) on)
 row_then xs ys (fails g) rest f e = absurd (let z : ◌≡◌ {A = ℕ} 0 1 = cc in omega arith)
 
-row_fails : (xs : List ℕ) (r : Reading (List ℕ)) (g : Fault) (f : Lines → Reading (List ℕ)) → preceded xs r ≡ fails g → preceded xs (and_then r (λ first ls. preceded first (f ls))) ≡ fails g
+row_fails : (xs : List ℕ) (r : Reading (List ℕ)) (g : Fault Expected) (f : Lines → Reading (List ℕ)) → preceded xs r ≡ fails g → preceded xs (and_then r (λ first ls. preceded first (f ls))) ≡ fails g
 row_fails xs (read zs ls) g f e = absurd (let z : ◌≡◌ {A = ℕ} 0 1 = cc in omega arith)
 row_fails xs (fails h) g f e = e
 
-pub rows_on : (xs ys : List ℕ) (k m columns : ℕ) (ls rest : Lines) → k ≡ suc m → preceded xs (read_row columns ls) ≡ read ys rest → preceded xs (read_rows k columns ls) ≡ preceded ys (read_rows m columns rest)
+-- of so many rows, the row i
+pub rows_on : (xs ys : List ℕ) (i rows columns : ℕ) (ls rest : Lines) → i < rows → preceded xs (read_row columns ls) ≡ read ys rest → preceded xs (read_rows (rows - i) columns ls) ≡ preceded ys (read_rows (rows - (i + 1)) columns rest)
 unfolding read_rows
-rows_on xs ys k m columns ls rest e f = rw e (row_then xs ys (read_row columns ls) rest (read_rows m columns) f)
+rows_on xs ys i rows columns ls rest some e =
+    let one : rows - i ≡ suc (rows - (i + 1)) = omega arith in
+    rw one (row_then xs ys (read_row columns ls) rest (read_rows (rows - (i + 1)) columns) e)
 
-pub rows_fail : (xs : List ℕ) (k m columns : ℕ) (ls : Lines) (g : Fault) → k ≡ suc m → preceded xs (read_row columns ls) ≡ fails g → preceded xs (read_rows k columns ls) ≡ fails g
+pub rows_fail : (xs : List ℕ) (i rows columns : ℕ) (ls : Lines) (g : Fault Expected) → i < rows → preceded xs (read_row columns ls) ≡ fails g → preceded xs (read_rows (rows - i) columns ls) ≡ fails g
 unfolding read_rows
-rows_fail xs k m columns ls g e f = rw e (row_fails xs (read_row columns ls) g (read_rows m columns) f)
+rows_fail xs i rows columns ls g some e =
+    let one : rows - i ≡ suc (rows - (i + 1)) = omega arith in
+    rw one (row_fails xs (read_row columns ls) g (read_rows (rows - (i + 1)) columns) e)
 
-pub rows_end : (xs : List ℕ) (k columns : ℕ) (ls : Lines) → k ≡ 0 → preceded xs (read_rows k columns ls) ≡ read xs ls
+pub rows_end : (xs : List ℕ) (i rows columns : ℕ) (ls : Lines) → rows ≤ i → preceded xs (read_rows (rows - i) columns ls) ≡ read xs ls
 unfolding read_rows
-rows_end xs k columns ls e = rw e (ap (λ l. read l ls) (append-nil xs))
+rows_end xs i rows columns ls none =
+    let all : rows - i ≡ 0 = omega arith in
+    rw all (ap (λ l. read l ls) (append-nil xs))
+
+pub gives_fault : {A X : Type 0} (f : X → A) (r : Reading A) (s : Stop (Fault Expected)) (g : Fault Expected) (ls : Lines) → s ≡ Malformed g → Gives f r (Err s) ls → r ≡ fails g
+gives_fault f r s g ls e h = subst (λ t. Gives f r (Err t) ls) e h
+
+pub ruleset row_steps = (rows_on, rows_fail, rows_end)
 
 -- what a step gives goes on to the next, and so does its fault
 then_read : {A B : Type 0} (f : A → Lines → Reading B) {r : Reading A} (x : A) (ls : Lines) → r ≡ read x ls → and_then r f ≡ f x ls
 then_read f x ls e = ap (λ r. and_then r f) e
 
-then_fails : {A B : Type 0} (f : A → Lines → Reading B) {r : Reading A} (g : Fault) → r ≡ fails g → and_then r f ≡ fails g
+then_fails : {A B : Type 0} (f : A → Lines → Reading B) {r : Reading A} (g : Fault Expected) → r ≡ fails g → and_then r f ≡ fails g
 then_fails f g e = ap (λ r. and_then r f) e
-
-pub gives_stop : {A B X Y : Type 0} (f : X → A) (h : Y → B) (r : Reading A) (q : Reading B) (s : Stop) → ((g : Fault) → r ≡ fails g → q ≡ fails g) → Gives f r (Err s) → Gives h q (Err s)
-gives_stop f h r q (Malformed g) on e = on g e
-gives_stop f h r q (OutOfMemory e) on t = tt
-
-pub gives_fault : {A X : Type 0} (f : X → A) (r : Reading A) (s : Stop) (g : Fault) → s ≡ Malformed g → Gives f r (Err s) → r ≡ fails g
-gives_fault f r s g e h = subst (λ t. Gives f r (Err t)) e h
 
 -- a matrix by its sides and its rows
 module _ (ls : Lines) where
-  pub matrix_no_sides : (g : Fault) → read_sides ls ≡ fails g → read_matrix ls ≡ fails g
+  pub matrix_no_sides : (g : Fault Expected) → read_sides ls ≡ fails g → read_matrix ls ≡ fails g
   unfolding read_matrix
   matrix_no_sides g e = then_fails _ g e
 
-  pub matrix_no_rows : (size : ℕ × ℕ) (rest : Lines) (k : ℕ) (g : Fault) → read_sides ls ≡ read size rest → k ≡ row_lines size.0 size.1 → read_rows k size.1 rest ≡ fails g → read_matrix ls ≡ fails g
+  pub matrix_no_rows : (size : ℕ × ℕ) (rest : Lines) (k : ℕ) (g : Fault Expected) → read_sides ls ≡ read size rest → k ≡ row_lines size.0 size.1 → read_rows k size.1 rest ≡ fails g → read_matrix ls ≡ fails g
   unfolding read_matrix
   matrix_no_rows size rest k g e f h = then_read _ size rest e ∙ then_fails _ g (ap (λ m. read_rows m size.1 rest) (sym f) ∙ h)
 
   pub matrix_read : (size : ℕ × ℕ) (rest : Lines) (k : ℕ) (cells : List ℕ) (last : Lines) → read_sides ls ≡ read size rest → k ≡ row_lines size.0 size.1 → read_rows k size.1 rest ≡ read cells last → read_matrix ls ≡ read (record { rows = size.0; columns = size.1; cells = cells }) last
   unfolding read_matrix
   matrix_read size rest k cells last e f h = then_read _ size rest e ∙ then_read _ cells last (ap (λ m. read_rows m size.1 rest) (sym f) ∙ h)
+
+pub ruleset matrix_steps = (matrix_no_sides, matrix_no_rows, matrix_read)
 
 -- a request by its command and its matrices
 module _ (n : ℕ) (ws : List (List ℕ)) (rest : Lines) where
@@ -75,14 +83,16 @@ module _ (n : ℕ) (ws : List (List ℕ)) (rest : Lines) where
   request_no_command e h = then_fails _ (fault n e) (ap (judged n rest) h)
 
   module _ (ring : RingName) (h : command ws ≡ Ok ring) where
-    pub request_no_left : (g : Fault) → read_matrix rest ≡ fails g → read_request (line n ws rest) ≡ fails g
+    pub request_no_left : (g : Fault Expected) → read_matrix rest ≡ fails g → read_request (line n ws rest) ≡ fails g
     unfolding read_request
     request_no_left g e = then_read _ ring rest (ap (judged n rest) h) ∙ then_fails _ g e
 
-    pub request_no_right : (l : Matrix) (between : Lines) (g : Fault) → read_matrix rest ≡ read l between → read_matrix between ≡ fails g → read_request (line n ws rest) ≡ fails g
+    pub request_no_right : (l : Matrix) (between : Lines) (g : Fault Expected) → read_matrix rest ≡ read l between → read_matrix between ≡ fails g → read_request (line n ws rest) ≡ fails g
     unfolding read_request
     request_no_right l between g e f = then_read _ ring rest (ap (judged n rest) h) ∙ (then_read _ l between e ∙ then_fails _ g f)
 
     pub request_read : (l r : Matrix) (between last : Lines) → read_matrix rest ≡ read l between → read_matrix between ≡ read r last → read_request (line n ws rest) ≡ read (product ring l r) last
     unfolding read_request
     request_read l r between last e f = then_read _ ring rest (ap (judged n rest) h) ∙ (then_read _ l between e ∙ then_read _ r last f)
+
+pub ruleset request_steps = (request_no_command, request_no_left, request_no_right, request_read)

@@ -1,44 +1,29 @@
 -- The requests that a canonical text was written from are read back, and a text is read in one way only.
-use Rattle.std.proofs.Common.{◌≡◌, ℕ, zero, suc, ◌*◌, ◌^◌, ◌<◌, ◌≤◌, true, false, eqb, List, [], ◌∷◌, ◌++◌, map, length, take, drop, Some, None, Ok, codes, decimal, Option, sym, refl, ap, ◌∙◌, subst, ⊎_elim, suc-mul, mul-zero, arith, rules}
-use Rattle.std.proofs.lemmas.Fmt.{decimal_nonempty, digits_decimal, digits_value-decimal}
+use Rattle.std.proofs.Common.{◌≡◌, ℕ, zero, suc, ◌*◌, ◌^◌, ◌<◌, ◌≤◌, true, false, eqb, List, [], ◌∷◌, ◌++◌, map, length, take, drop, Some, None, Ok, codes, decimal, Option, sym, refl, ap, ◌∙◌, subst, ⊎_elim, suc-mul, mul-zero, arith}
 use Rattle.std.proofs.ByRecursion.{All-append, All-take, All-drop}
 use Rattle.std.proofs.lemmas.List.{append_assoc, nil_from_length, take-append-drop, length-take-le, length-drop, length-map}
-use Rattle.std.proofs.lemmas.Str.Parse.{IsNumeralModel, numerals_by_fold}
 use Rattle.std.proofs.lemmas.Bool.{cases_Bool, eqb-true, eqb-false}
 use Rattle.std.specs.Option.{ok_or}
 use Rattle.std.specs.List.{flat_map, AllByRecursion}
-use Rattle.std.specs.Str.{all_ascii_digits}
+use Rattle.text.specs.declared.fault.Fault.{Fault}
+use Rattle.requests.specs.declared.fault.Expected.{Expected}
 use Rattle.requests.specs.declared.fault.Expected.TheVariants.{Sides, Row}
-use Rattle.requests.specs.declared.fault.Fault.{Fault}
 use Rattle.requests.specs.declared.request.RingName.{RingName}
 use Rattle.requests.specs.declared.request.RingName.TheVariants.{Words, Residues, Octets, OctetsByShifts}
-use Rattle.requests.specs.Numbers.{value_after, value, number, exactly}
-use Rattle.requests.specs.Format.{Lines, end, line, read, fails, judged, command, both, read_row, read_rows, row_lines, read_matrix, read_request, Stops, ReadsAs, Reads}
+use Rattle.text.specs.Lines.{Lines, end, line}
+use Rattle.text.specs.Numbers.{number}
+use Rattle.text.specs.Text.{blank}
+use Rattle.text.proofs.Numerals.{plain_decimal, plain_decimals, number_back}
+use Rattle.text.proofs.Spelling.{plain, PlainWord, PlainLine, numbered, page_back}
+use Rattle.requests.specs.Numbers.{exactly}
+use Rattle.requests.specs.Format.{read, fails, judged, command, both, read_row, read_rows, row_lines, read_matrix, read_request, Stops, ReadsAs, Reads}
 use Rattle.algebra.specs.Matrix.{Matrix}
 use Rattle.requests.specs.Asked.{Asked, product}
-use Rattle.requests.specs.Text.{blank}
 use Rattle.requests.specs.Written.{name_of, row_words, matrix_words, request_words, written, Proper, ProperRequest, OneReading, ReadBack}
 use Rattle.requests.proofs.Following.{matrix_read, request_read}
-use Rattle.requests.proofs.Spelling.{plain, PlainWord, PlainLine, digits_plain, numbered, page_back}
-use Rattle.requests.proofs.Valued.{is_number}
 
 abbrev Small : ℕ → Type 0
 Small n = n < 2 ^ 32
-
-own : IsNumeralModel (λ ds. all_ascii_digits ds ≡ true) value
-own = numerals_by_fold _ (search rules) value_after (search rules)
-
-digits_here : (n : ℕ) → Small n → all_ascii_digits (decimal n) ≡ true
-digits_here n h = digits_decimal own n (omega arith)
-
--- a numeral is a plain word, and is read back
-plain_decimal : (n : ℕ) → Small n → PlainWord (decimal n)
-plain_decimal n h = (decimal_nonempty n (omega arith), digits_plain (decimal n) (digits_here n h))
-
-number_back : (n : ℕ) → Small n → number (decimal n) ≡ Some n
-number_back n h =
-    let same = digits_value-decimal own n (omega arith) in
-    is_number (decimal n) (decimal_nonempty n (omega arith)) (digits_here n h) (omega arith) ∙ ap (λ m. Some m) same
 
 exactly_back : (k : ℕ) (xs : List ℕ) → length xs ≡ k → AllByRecursion Small xs → exactly k (map decimal xs) ≡ Some xs
 exactly_back zero [] e h = refl
@@ -100,17 +85,13 @@ requests_back n (q ∷ qs) h =
     (numbered here.0 (flat_map request_words qs), here.1, requests_back here.0 qs h.1)
 
 -- every line of a canonical text is plain
-map_plain : (xs : List ℕ) → AllByRecursion Small xs → AllByRecursion PlainWord (map decimal xs)
-map_plain [] h = tt
-map_plain (x ∷ xs) h = (plain_decimal x h.0, map_plain xs h.1)
-
 rows_plain : (k columns : ℕ) (cells : List ℕ) → 0 < columns → length cells ≡ k * columns → AllByRecursion Small cells → AllByRecursion PlainLine (row_words k columns cells)
 rows_plain zero columns cells some e h = tt
 rows_plain (suc k) columns cells some e h =
     let room : columns ≤ length cells = omega (arith, suc-mul k columns) in
     let long = length-map (take columns cells) decimal ∙ length-take-le columns cells room in
     let left : length (drop columns cells) ≡ k * columns = length-drop columns cells ∙ omega (arith, suc-mul k columns) in
-    ((omega arith, map_plain _ (All-take _ columns cells h)), rows_plain k columns (drop columns cells) some left (All-drop _ columns cells h))
+    ((omega arith, plain_decimals _ (All-take _ columns cells h)), rows_plain k columns (drop columns cells) some left (All-drop _ columns cells h))
 
 matrix_plain : (a : Matrix) → Proper a → AllByRecursion PlainLine (matrix_words a)
 matrix_plain a h = (
@@ -146,19 +127,19 @@ written_reads : (qs : List Asked) → AllByRecursion ProperRequest qs → Reads 
 written_reads qs h = subst (λ ls. ReadsAs ls qs None) (sym (page_back 1 (flat_map request_words qs) (requests_plain qs h))) (requests_back 1 qs h)
 
 -- lines that stop here give no request, and stop with one fault only
-stops_no_request : (ls : Lines) (f : Option Fault) (q : Asked) (rest : Lines) → Stops ls f → read_request ls ≡ read q rest → ⊥
+stops_no_request : (ls : Lines) (f : Option (Fault Expected)) (q : Asked) (rest : Lines) → Stops ls f → read_request ls ≡ read q rest → ⊥
 unfolding read_request
 stops_no_request (end n) f q rest h e = let z : ◌≡◌ {A = ℕ} 0 1 = cc in omega arith
 stops_no_request (line n ws ls) f q rest h e = let d = sym h.1 ∙ e in let z : ◌≡◌ {A = ℕ} 0 1 = cc in omega arith
 
-stops_same : (ls : Lines) (f g : Option Fault) → Stops ls f → Stops ls g → f ≡ g
+stops_same : (ls : Lines) (f g : Option (Fault Expected)) → Stops ls f → Stops ls g → f ≡ g
 stops_same (end n) f g h i = h ∙ sym i
 stops_same (line n ws ls) f g h i =
     let d : fails h.0 ≡ fails i.0 = sym h.1 ∙ i.1 in
     let same : h.0 ≡ i.0 = cc in
     h.2 ∙ (ap (λ x. Some x) same ∙ sym i.2)
 
-reads_one_way : (ls : Lines) (qs ps : List Asked) (f g : Option Fault) → ReadsAs ls qs f → ReadsAs ls ps g → (qs ≡ ps) × (f ≡ g)
+reads_one_way : (ls : Lines) (qs ps : List Asked) (f g : Option (Fault Expected)) → ReadsAs ls qs f → ReadsAs ls ps g → (qs ≡ ps) × (f ≡ g)
 reads_one_way ls [] [] f g h i = (refl, stops_same ls f g h i)
 reads_one_way ls [] (p ∷ ps) f g h i = absurd (stops_no_request ls f p i.0 h i.1)
 reads_one_way ls (q ∷ qs) [] f g h i = absurd (stops_no_request ls g q h.0 i h.1)
@@ -170,8 +151,8 @@ reads_one_way ls (q ∷ qs) (p ∷ ps) f g h i =
     ((λ k. same k ∷ more.0 k), more.1)
 
 -- what is read from a text is all that can be, and from a canonical text just what it was written from
-pub one_reading : (text : List ℕ) (ps : List Asked) (f : Option Fault) → Reads text ps f → OneReading text ps f
+pub one_reading : (text : List ℕ) (ps : List Asked) (f : Option (Fault Expected)) → Reads text ps f → OneReading text ps f
 one_reading text ps f h qs g i = reads_one_way _ ps qs f g h i
 
-pub read_back : (text : List ℕ) (ps : List Asked) (f : Option Fault) → Reads text ps f → ReadBack text ps f
+pub read_back : (text : List ℕ) (ps : List Asked) (f : Option (Fault Expected)) → Reads text ps f → ReadBack text ps f
 read_back text ps f h qs proper e = one_reading text ps f h qs None (subst (λ t. Reads t qs None) (sym e) (written_reads qs proper))

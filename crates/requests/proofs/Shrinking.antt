@@ -1,17 +1,14 @@
 -- Each request takes at least one line, and requests read one by one are those of the whole text.
 use Rattle.std.proofs.Common.{◌≡◌, ℕ, zero, suc, ◌<◌, ◌≤◌, List, [], ◌∷◌, ◌++◌, map, Some, None, Ok, Err, Option, Result, sym, refl, ap, ◌∙◌, subst, arith}
 use Rattle.std.proofs.lemmas.List.{append_assoc, append-nil, map_push}
+use Rattle.text.specs.declared.fault.Fault.{Fault}
 use Rattle.requests.specs.declared.fault.Expected.{Expected}
-use Rattle.requests.specs.declared.fault.Fault.{Fault}
 use Rattle.requests.specs.declared.request.Request.{Request}
 use Rattle.requests.specs.Asked.{asked_by, Asked}
-use Rattle.requests.specs.Format.{Lines, end, line, Reading, read, fails, and_then, judged, next_line, read_rows, read_matrix, read_request, ReadsAs}
+use Rattle.text.specs.Lines.{Lines, end, line}
+use Rattle.text.proofs.Counting.{count}
+use Rattle.requests.specs.Format.{Reading, read, fails, and_then, judged, next_line, read_rows, read_matrix, read_request, ReadsAs}
 use Rattle.algebra.specs.Matrix.{Matrix}
-
--- how many lines are left
-abbrev pub count : Lines → ℕ
-count (end n) = 0
-count (line n ws ls) = suc (count ls)
 
 -- the two steps of a reading
 steps : {A B : Type 0} (r : Reading A) (f : A → Lines → Reading B) (y : B) (rest : Lines) → and_then r f ≡ read y rest → (x : A) × (ls : Lines) × (r ≡ read x ls) × (f x ls ≡ read y rest)
@@ -61,19 +58,19 @@ request_shorter ls q rest e =
 
 -- the requests read so far, and then those of what is left, are those of the whole
 abbrev pub SoFar : Lines → List Asked → Lines → Type 0
-SoFar whole qs ls = (more : List Asked) (f : Option Fault) → ReadsAs ls more f → ReadsAs whole (qs ++ more) f
+SoFar whole qs ls = (more : List Asked) (f : Option (Fault Expected)) → ReadsAs ls more f → ReadsAs whole (qs ++ more) f
 
 pub one_more : (whole : Lines) (rs : List Request) (r : Request) (ls rest : Lines) → read_request ls ≡ read (asked_by r) rest → SoFar whole (map asked_by rs) ls → SoFar whole (map asked_by (rs ++ r ∷ [])) rest
 one_more whole rs r ls rest e far more f h =
     let same : map asked_by (rs ++ r ∷ []) ++ more ≡ map asked_by rs ++ (asked_by r ∷ more) = ap (λ l. l ++ more) (map_push asked_by rs r) ∙ append_assoc (map asked_by rs) (asked_by r ∷ []) more in
     subst (λ l. ReadsAs whole l f) (sym same) (far (asked_by r ∷ more) f (rest, e, h))
 
-pub no_more : (whole : Lines) (qs : List Asked) (ls : Lines) (f : Option Fault) → SoFar whole qs ls → ReadsAs ls [] f → ReadsAs whole qs f
+pub no_more : (whole : Lines) (qs : List Asked) (ls : Lines) (f : Option (Fault Expected)) → SoFar whole qs ls → ReadsAs ls [] f → ReadsAs whole qs f
 no_more whole qs ls f far h = subst (λ l. ReadsAs whole l f) (append-nil qs) (far [] f h)
 
 -- the text ends, or no request follows
 pub ends : (ls : Lines) (n : ℕ) → ls ≡ end n → ReadsAs ls [] None
 ends ls n e = subst (λ l. ReadsAs l [] None) (sym e) refl
 
-pub breaks_off : (ls : Lines) (n : ℕ) (ws : List (List ℕ)) (rest : Lines) (g : Fault) → ls ≡ line n ws rest → read_request (line n ws rest) ≡ fails g → ReadsAs ls [] (Some g)
+pub breaks_off : (ls : Lines) (n : ℕ) (ws : List (List ℕ)) (rest : Lines) (g : Fault Expected) → ls ≡ line n ws rest → read_request (line n ws rest) ≡ fails g → ReadsAs ls [] (Some g)
 breaks_off ls n ws rest g e h = subst (λ l. ReadsAs l [] (Some g)) (sym e) (g, h, refl)

@@ -1,43 +1,25 @@
 -- The format of requests: which matrices and rings the lines of a text name, and where a text does not fit.
-use Rattle.std.specs.Prelude.{◌≡◌, ℕ, zero, suc, Bool, true, false, cond, List, [], ◌∷◌, ◌++◌, Some, None, Ok, Err, codes, Option, Result, ◌==◌}
+use Rattle.std.specs.Prelude.{◌≡◌, ℕ, zero, suc, cond, List, [], ◌∷◌, ◌++◌, Some, None, Ok, Err, codes, Option, Result, ◌==◌}
 use Rattle.std.specs.Option.{ok_or}
 use Rattle.std.specs.Str.{bytes_eq}
 use Rattle.algebra.specs.Matrix.{Matrix}
 use Rattle.requests.specs.Asked.{Asked, product}
-use Rattle.requests.specs.Text.{lines, words}
-use Rattle.requests.specs.Numbers.{number, exactly}
+use Rattle.text.specs.Lines.{Lines, end, line, meaningful}
+use Rattle.text.specs.Numbers.{number}
+use Rattle.text.specs.Text.{lines}
+use Rattle.text.specs.declared.fault.Fault.{Fault}
+use Rattle.requests.specs.Numbers.{exactly}
 use Rattle.requests.specs.declared.fault.Expected.{Expected}
 use Rattle.requests.specs.declared.fault.Expected.TheVariants.{Command, Ring, Sides, Row}
-use Rattle.requests.specs.declared.fault.Fault.{Fault}
 use Rattle.requests.specs.declared.request.RingName.{RingName}
 use Rattle.requests.specs.declared.request.RingName.TheVariants.{Words, Residues, Octets, OctetsByShifts}
-
--- what is left of a text: its lines of meaning, each with its number and its words, and at the end the number that one more line would have
-pub data Lines : Type 0 where
-  end : ℕ → Lines
-  line : ℕ → List (List ℕ) → Lines → Lines
-
--- whether a first word begins a comment
-abbrev pub comment : List ℕ → Bool
-comment [] = false
-comment (b ∷ bs) = b == 35
-
--- lines without words, and comments, mean nothing
-abbrev pub passed_over : List (List ℕ) → Bool
-passed_over [] = true
-passed_over (w ∷ ws) = comment w
-
--- the lines of meaning, where the first line has the number n
-abbrev pub meaningful : ℕ → List (List ℕ) → Lines
-meaningful n [] = end n
-meaningful n (l ∷ ls) = cond (passed_over (words l)) (meaningful (suc n) ls) (line n (words l) (meaningful (suc n) ls))
 
 -- a value read from the front of some lines with the lines after it, or the fault there
 pub data Reading (A : Type 0) : Type 0 where
   read : A → Lines → Reading A
-  fails : Fault → Reading A
+  fails : Fault Expected → Reading A
 
-abbrev pub fault : ℕ → Expected → Fault
+abbrev pub fault : ℕ → Expected → Fault Expected
 fault n e = record { line = n; expected = e }
 
 -- one reading after another
@@ -121,15 +103,15 @@ read_request ls =
     and_then (read_matrix between) (λ right rest. read (product ring left right) rest)))
 
 -- nothing more is asked for: the text has ended, or what comes next is no request
-abbrev pub Stops : Lines → Option Fault → Type 0
+abbrev pub Stops : Lines → Option (Fault Expected) → Type 0
 Stops (end n) f = f ≡ None
-Stops (line n ws ls) f = (g : Fault) × (read_request (line n ws ls) ≡ fails g) × (f ≡ Some g)
+Stops (line n ws ls) f = (g : Fault Expected) × (read_request (line n ws ls) ≡ fails g) × (f ≡ Some g)
 
 -- the requests that lines ask for in their order, and the fault that ends them, if any
-abbrev pub ReadsAs : Lines → List Asked → Option Fault → Type 0
+abbrev pub ReadsAs : Lines → List Asked → Option (Fault Expected) → Type 0
 ReadsAs ls [] f = Stops ls f
 ReadsAs ls (q ∷ qs) f = (rest : Lines) × (read_request ls ≡ read q rest) × ReadsAs rest qs f
 
 -- the same of a text
-abbrev pub Reads : List ℕ → List Asked → Option Fault → Type 0
+abbrev pub Reads : List ℕ → List Asked → Option (Fault Expected) → Type 0
 Reads text qs f = ReadsAs (meaningful 1 (lines text)) qs f

@@ -1,8 +1,7 @@
--- The message of a fault.
+-- What the message of a fault says was expected.
 use Rattle.std.specs.Prelude.{ℕ, cond, List, ◌++◌, codes, decimal, ◌==◌}
 use Rattle.requests.specs.declared.fault.Expected.{Expected}
 use Rattle.requests.specs.declared.fault.Expected.TheVariants.{Command, Ring, Sides, Row}
-use Rattle.requests.specs.declared.fault.Fault.{Fault}
 
 abbrev pub row_text : ℕ → List ℕ
 row_text columns =
@@ -14,6 +13,3 @@ expected_text Command = codes "the command `product RING`"
 expected_text Ring = codes "one ring after `product`: words, residues, octets or octets-by-shifts"
 expected_text Sides = codes "the rows and the columns of a matrix, two whole numbers below 2^32"
 expected_text (Row columns) = row_text columns
-
-abbrev pub fault_text : Fault → List ℕ
-fault_text f = codes "line " ++ (decimal f.line ++ (codes ": expected " ++ expected_text f.expected))

@@ -1,22 +1,14 @@
 -- The canonical text of requests: decimal numerals, one blank between the words of a line, a line feed after each line.
 use Rattle.std.specs.Prelude.{◌≡◌, ℕ, zero, suc, ◌*◌, ◌^◌, ◌<◌, List, [], ◌∷◌, ◌++◌, map, length, take, drop, None, codes, decimal, Option}
 use Rattle.std.specs.List.{flat_map, AllByRecursion}
-use Rattle.requests.specs.declared.fault.Fault.{Fault}
+use Rattle.text.specs.Canonical.{line_of}
+use Rattle.text.specs.declared.fault.Fault.{Fault}
+use Rattle.requests.specs.declared.fault.Expected.{Expected}
 use Rattle.requests.specs.Format.{row_lines, Reads}
 use Rattle.algebra.specs.Matrix.{Matrix}
 use Rattle.requests.specs.Asked.{Asked, product}
 use Rattle.requests.specs.declared.request.RingName.{RingName}
 use Rattle.requests.specs.declared.request.RingName.TheVariants.{Words, Residues, Octets, OctetsByShifts}
-
--- words with a blank between each two
-abbrev pub spaced : List (List ℕ) → List ℕ
-spaced [] = []
-spaced (w ∷ []) = w
-spaced (w ∷ v ∷ ws) = w ++ (32 ∷ spaced (v ∷ ws))
-
--- a line of words
-abbrev pub line_of : List (List ℕ) → List ℕ
-line_of ws = spaced ws ++ (10 ∷ [])
 
 abbrev pub name_of : RingName → List ℕ
 name_of Words = codes "words"
@@ -50,9 +42,9 @@ abbrev pub ProperRequest : Asked → Type 0
 ProperRequest (product ring left right) = Proper left × Proper right
 
 -- no other requests, and no other fault, can be read from the text
-abbrev pub OneReading : List ℕ → List Asked → Option Fault → Type 0
-OneReading text ps f = (qs : List Asked) (g : Option Fault) → Reads text qs g → (ps ≡ qs) × (f ≡ g)
+abbrev pub OneReading : List ℕ → List Asked → Option (Fault Expected) → Type 0
+OneReading text ps f = (qs : List Asked) (g : Option (Fault Expected)) → Reads text qs g → (ps ≡ qs) × (f ≡ g)
 
 -- where the text is the canonical text of some requests, those are read, and no fault
-abbrev pub ReadBack : List ℕ → List Asked → Option Fault → Type 0
+abbrev pub ReadBack : List ℕ → List Asked → Option (Fault Expected) → Type 0
 ReadBack text ps f = (qs : List Asked) → AllByRecursion ProperRequest qs → text ≡ written qs → (ps ≡ qs) × (f ≡ None)

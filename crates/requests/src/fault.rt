@@ -1,12 +1,14 @@
-// Where and why a text is not a list of requests.
-ghost use Rattle.std.specs.Prelude.{Some};
+// What a faulty line should have held.
+ghost use Rattle.std.specs.Prelude.{◌≡◌, Some};
 ghost use Rattle.std.specs.Fmt.{WritesOnOk};
-ghost use Rattle.requests.specs.Messages.{expected_text, fault_text, row_text};
+ghost use Rattle.requests.specs.Messages.{expected_text, row_text};
+ghost use Rattle.text.specs.declared.stop.Stop.TheVariants.{Malformed};
 
 use std::fmt;
+use text::stop::Stop;
 
 // What should have stood on the faulty line.
-#[derive(Clone, Copy)]
+#[derive(Clone, Copy, Debug, PartialEq, Eq)]
 pub enum Expected {
     Command,
     Ring,
@@ -14,11 +16,8 @@ pub enum Expected {
     Row { columns: usize },
 }
 
-#[derive(Clone, Copy)]
-pub struct Fault {
-    pub line: usize,
-    pub expected: Expected,
-}
+// Where and why a text is not a list of requests.
+pub type Fault = text::fault::Fault<Expected>;
 
 impl fmt::Display for Expected {
     ghost output = { λ e. Some (expected_text e) };
@@ -34,27 +33,17 @@ impl fmt::Display for Expected {
                 f,
                 "the rows and the columns of a matrix, two whole numbers below 2^32"
             ),
-            Expected::Row { columns } => write_row(f, *columns),
+            Expected::Row { columns: 1 } => write!(f, "a row of one whole number below 2^32"),
+            Expected::Row { columns } => {
+                write!(f, "a row of {columns} whole numbers below 2^32")
+            }
         }
     }
 }
 
-fn write_row<W: fmt::Write>(f: &mut fmt::Formatter<W>, columns: usize) -> fmt::Result
-    ensures { WritesOnOk W.Write.write_str_gives f.old result (row_text columns) f.new }
+// A line does not fit the format.
+pub(crate) fn malformed(line: usize, expected: Expected) -> Stop<Fault>
+    ensures { result ≡ Malformed (record { line = line; expected = expected }) }
 {
-    if columns == 1 {
-        write!(f, "a row of one whole number below 2^32")
-    } else {
-        write!(f, "a row of {columns} whole numbers below 2^32")
-    }
-}
-
-impl fmt::Display for Fault {
-    ghost output = { λ f. Some (fault_text f) };
-
-    fn fmt<W: fmt::Write>(&self, f: &mut fmt::Formatter<W>) -> fmt::Result {
-        let line = self.line;
-        let expected = self.expected;
-        write!(f, "line {line}: expected {expected}")
-    }
+    Stop::Malformed(Fault { line, expected })
 }

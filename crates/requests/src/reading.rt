@@ -1,18 +1,20 @@
 // Reads the requests of a text, line by line.
 ghost use Rattle.std.specs.Prelude.{◌≡◌, map, IfOk};
-ghost use Rattle.requests.specs.Cursors.{left, Counted, preceded, Gives};
+ghost use Rattle.text.specs.Cursors.{left};
+ghost use Rattle.text.specs.Lines.{line};
+ghost use Rattle.text.specs.Text.{words};
 ghost use Rattle.requests.specs.Asked.{cells_of, matrix_of, asked_by};
-ghost use Rattle.requests.specs.Text.{words};
-ghost use Rattle.requests.specs.Format.{line, read_sides, read_row, read_rows, read_matrix, read_request, row_lines, Reads};
+ghost use Rattle.requests.specs.Format.{read_sides, read_row, read_rows, read_matrix, read_request, row_lines, Reads};
+ghost use Rattle.requests.specs.Giving.{preceded, Gives};
 ghost use Rattle.requests.specs.Written.{OneReading, ReadBack};
 
-use crate::cursor::Cursor;
-use crate::fault::{Expected, Fault};
-use crate::lines::{Next, next_line};
+use crate::fault::{Expected, Fault, malformed};
 use crate::request::{Request, Table};
-use crate::stop::{Stop, malformed};
 use crate::words::{parse_command, parse_row, parse_sides};
 use std::alloc::{AllocError, Global};
+use text::cursor::Cursor;
+use text::lines::Line;
+use text::stop::Stop;
 
 // The requests of a text up to its end or to the first fault.
 #[derive(Drop)]
@@ -21,63 +23,44 @@ pub struct Parsed {
     pub fault: Option<Fault>,
 }
 
-fn read_sides(cursor: Cursor<'_>) -> Result<((u32, u32), Cursor<'_>), Stop>
-    requires { Counted cursor }
-    ensures { Gives (λ s. s) (read_sides (left cursor.entry)) result }
+fn read_sides(cursor: &mut Cursor<'_>) -> Result<(u32, u32), Stop<Fault>>
+    ensures { Gives (λ s. s) (read_sides (left cursor.old)) result (left cursor.new) }
 {
-    match next_line(cursor) {
-        Next::End { number } => Err(malformed(number, Expected::Sides)),
-        Next::Line {
-            number,
-            text,
-            after,
-        } => match parse_sides(text) {
-            Some(sides) => Ok((sides, after)),
-            None => Err(malformed(number, Expected::Sides)),
-        },
-    }
+    let line = cursor
+        .next_line()
+        .map_err(|end| malformed(end.number, Expected::Sides))?;
+    parse_sides(line.text).ok_or(malformed(line.number, Expected::Sides))
 }
 
-// The cells with those of the next row added.
+// Adds the cells of the next row.
 fn read_row(
-    cursor: Cursor<'_>,
+    cursor: &mut Cursor<'_>,
     columns: usize,
-    cells: Vec<u32>,
-) -> Result<(Vec<u32>, Cursor<'_>), Stop>
-    requires { Counted cursor }
-    ensures { Gives cells_of (preceded (cells_of cells) (read_row columns (left cursor.entry))) result }
+    cells: &mut Vec<u32>,
+) -> Result<(), Stop<Fault>>
+    ensures { Gives (λ _. cells_of cells.new) (preceded (cells_of cells.old) (read_row columns (left cursor.old))) result (left cursor.new) }
 {
-    match next_line(cursor) {
-        Next::End { number } => Err(malformed(number, Expected::Row { columns })),
-        Next::Line {
-            number,
-            text,
-            after,
-        } => match parse_row(text, columns, cells)? {
-            Some(cells) => Ok((cells, after)),
-            None => Err(malformed(number, Expected::Row { columns })),
-        },
-    }
+    let line = cursor
+        .next_line()
+        .map_err(|end| malformed(end.number, Expected::Row { columns }))?;
+    parse_row(line, columns, cells)
 }
 
 // The cells of so many rows.
+#[tactic(auto, using(crate::proofs::Following::row_steps))]
 fn read_rows(
     heap: Global,
-    cursor: Cursor<'_>,
+    cursor: &mut Cursor<'_>,
     rows: usize,
     columns: usize,
-) -> Result<(Vec<u32>, Cursor<'_>), Stop>
-    requires { Counted cursor }
-    ensures { Gives cells_of (read_rows rows columns (left cursor.entry)) result }
+) -> Result<Vec<u32>, Stop<Fault>>
+    ensures { Gives cells_of (read_rows rows columns (left cursor.old)) result (left cursor.new) }
 {
     let mut cells = Vec::new(heap);
-    let mut cursor = cursor;
     for _ in 0..rows {
-        let (longer, after) = read_row(cursor, columns, cells)?;
-        cells = longer;
-        cursor = after;
+        read_row(cursor, columns, &mut cells)?;
     }
-    Ok((cells, cursor))
+    Ok(cells)
 }
 
 // How many lines the rows have: none where there is no column.
@@ -87,41 +70,34 @@ fn row_lines(rows: usize, columns: usize) -> usize
     if columns == 0 { 0 } else { rows }
 }
 
-fn read_table(heap: Global, cursor: Cursor<'_>) -> Result<(Table, Cursor<'_>), Stop>
-    requires { Counted cursor }
-    ensures { Gives matrix_of (read_matrix (left cursor.entry)) result }
+#[tactic(auto, using(crate::proofs::Following::matrix_steps))]
+fn read_table(heap: Global, cursor: &mut Cursor<'_>) -> Result<Table, Stop<Fault>>
+    ensures { Gives matrix_of (read_matrix (left cursor.old)) result (left cursor.new) }
 {
-    let (sides, after) = read_sides(cursor)?;
+    let sides = read_sides(cursor)?;
     let rows = sides.0 as usize;
     let columns = sides.1 as usize;
-    let (cells, after) = read_rows(heap, after, row_lines(rows, columns), columns)?;
-    Ok((
-        Table {
-            rows,
-            columns,
-            cells,
-        },
-        after,
-    ))
+    let cells = read_rows(heap, cursor, row_lines(rows, columns), columns)?;
+    Ok(Table {
+        rows,
+        columns,
+        cells,
+    })
 }
 
-// The request whose command is the line of this number and text.
-fn read_request<'a>(
+// The request whose command is on this line.
+#[tactic(auto, using(crate::proofs::Following::request_steps))]
+fn read_request(
     heap: Global,
-    number: usize,
-    text: &[u8],
-    after: Cursor<'a>,
-) -> Result<(Request, Cursor<'a>), Stop>
-    requires { Counted after }
-    ensures { Gives asked_by (read_request (line number (words text.now) (left after.entry))) result }
+    first: Line<'_>,
+    cursor: &mut Cursor<'_>,
+) -> Result<Request, Stop<Fault>>
+    ensures { Gives asked_by (read_request (line first.entry.number (words first.entry.text.now) (left cursor.old))) result (left cursor.new) }
 {
-    let ring = match parse_command(text) {
-        Ok(ring) => ring,
-        Err(expected) => return Err(malformed(number, expected)),
-    };
-    let (left, after) = read_table(heap, after)?;
-    let (right, after) = read_table(heap, after)?;
-    Ok((Request::Product { ring, left, right }, after))
+    let ring = parse_command(first.text).map_err(|expected| malformed(first.number, expected))?;
+    let left = read_table(heap, cursor)?;
+    let right = read_table(heap, cursor)?;
+    Ok(Request::Product { ring, left, right })
 }
 
 // Reads requests until the text ends or does not fit the format.
@@ -131,23 +107,12 @@ pub fn parse(heap: Global, text: &[u8]) -> Result<Parsed, AllocError>
     ensures back { IfOk result (λ p. ReadBack text.now (map asked_by p.requests.items) p.fault) }
 {
     let mut requests = Vec::new(heap);
-    let mut cursor = Cursor {
-        rest: text,
-        line: 1,
-    };
-    while let Next::Line {
-        number,
-        text,
-        after,
-    } = next_line(cursor)
-    {
-        match read_request(heap, number, text, after) {
-            Ok((request, after)) => {
-                requests.push(request)?;
-                cursor = after;
-            }
+    let mut cursor = Cursor::start(text);
+    while let Ok(line) = cursor.next_line() {
+        match read_request(heap, line, &mut cursor) {
+            Ok(request) => requests.push(request)?,
             Err(stop) => {
-                let fault = stop.into_fault()?;
+                let fault = stop.into_malformed()?;
                 return Ok(Parsed {
                     requests,
                     fault: Some(fault),

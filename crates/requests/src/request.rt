@@ -1,12 +1,41 @@
 // What a text asks for: products of matrices over a named ring.
+ghost use Rattle.std.specs.Prelude.{◌≡◌};
+ghost use Rattle.std.specs.Option.{ok_or};
+ghost use Rattle.requests.specs.Format.{ring_named};
+
+use text::words::is_same;
 
 // The ring that a product is computed in.
-#[derive(Clone, Copy)]
+#[derive(Clone, Copy, Debug, PartialEq, Eq)]
 pub enum RingName {
     Words,
     Residues,
     Octets,
     OctetsByShifts,
+}
+
+// No ring has the name.
+#[derive(Clone, Copy, Debug, PartialEq, Eq)]
+pub struct UnknownRing;
+
+impl TryFrom<&[u8]> for RingName {
+    type Error = UnknownRing;
+
+    ghost try_from_gives = { λ name r. r ≡ ok_or (ring_named name.now) (record {}) };
+
+    fn try_from(name: &[u8]) -> Result<RingName, UnknownRing> {
+        if is_same(name, b"words") {
+            Ok(RingName::Words)
+        } else if is_same(name, b"residues") {
+            Ok(RingName::Residues)
+        } else if is_same(name, b"octets") {
+            Ok(RingName::Octets)
+        } else if is_same(name, b"octets-by-shifts") {
+            Ok(RingName::OctetsByShifts)
+        } else {
+            Err(UnknownRing)
+        }
+    }
 }
 
 // A matrix as it was read: its cells stand row after row.

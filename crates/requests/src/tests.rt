@@ -42,7 +42,7 @@ fn reads_a_request(rt: HostRuntime) -> Result<(), Fail> {
     let Some(Request::Product { ring, left, right }) = parsed.requests.first() else {
         return Err(Fail::new("no request"));
     };
-    assert!(rt; matches!(ring, RingName::Octets));
+    assert_eq!(rt; *ring, RingName::Octets);
     check_table(&rt, left, 1, 2, &[7, 4294967295])?;
     check_table(&rt, right, 2, 0, &[])
 }

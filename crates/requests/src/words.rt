@@ -1,54 +1,28 @@
 // What the words of one line say: a command, the sides of a matrix, a row.
-ghost use Rattle.std.specs.Prelude.{◌≡◌, ◌++◌, IfOk, vec_items};
-ghost use Rattle.std.specs.Option.{option_map};
-ghost use Rattle.std.specs.Str.{bytes_eq};
-ghost use Rattle.requests.specs.Text.{words};
-ghost use Rattle.requests.specs.Numbers.{exactly};
-ghost use Rattle.requests.specs.Format.{command, ring_named, sides};
+ghost use Rattle.std.specs.Prelude.{◌≡◌};
+ghost use Rattle.text.specs.Text.{words};
+ghost use Rattle.requests.specs.Format.{command, sides};
+ghost use Rattle.requests.specs.Giving.{Adds};
 
-use crate::fault::Expected;
-use crate::number::parse_number;
+use crate::fault::{Expected, Fault, malformed};
 use crate::request::RingName;
-use crate::text::split_word;
 use std::alloc::AllocError;
-
-fn is_same(word: &[u8], name: &[u8]) -> bool
-    ensures { result ≡ bytes_eq word.now name.now }
-{
-    word == name
-}
-
-fn parse_ring(name: &[u8]) -> Option<RingName>
-    ensures { result ≡ ring_named name.now }
-{
-    if is_same(name, b"words") {
-        Some(RingName::Words)
-    } else if is_same(name, b"residues") {
-        Some(RingName::Residues)
-    } else if is_same(name, b"octets") {
-        Some(RingName::Octets)
-    } else if is_same(name, b"octets-by-shifts") {
-        Some(RingName::OctetsByShifts)
-    } else {
-        None
-    }
-}
+use text::lines::Line;
+use text::number::parse_number;
+use text::stop::Stop;
+use text::words::{is_same, split_word};
 
 // The ring of a line `product RING`.
 pub(crate) fn parse_command(text: &[u8]) -> Result<RingName, Expected>
     ensures { result ≡ command (words text.now) }
 {
-    let Some((word, rest)) = split_word(text) else {
-        return Err(Expected::Command);
-    };
+    let (word, rest) = split_word(text).ok_or(Expected::Command)?;
     if !is_same(word, b"product") {
         return Err(Expected::Command);
     }
-    let Some((name, rest)) = split_word(rest) else {
-        return Err(Expected::Ring);
-    };
+    let (name, rest) = split_word(rest).ok_or(Expected::Ring)?;
     match split_word(rest) {
-        None => parse_ring(name).ok_or(Expected::Ring),
+        None => RingName::try_from(name).map_err(|_| Expected::Ring),
         Some(_) => Err(Expected::Ring),
     }
 }
@@ -65,28 +39,25 @@ pub(crate) fn parse_sides(text: &[u8]) -> Option<(u32, u32)>
     }
 }
 
-// The cells with the numbers of a line added, if it has just as many as there are columns.
+// Adds the numbers of a line to the cells, if it has just as many as there are columns.
+#[tactic(auto, using(crate::proofs::Adding::row_steps))]
 pub(crate) fn parse_row(
-    text: &[u8],
+    line: Line<'_>,
     columns: usize,
-    cells: Vec<u32>,
-) -> Result<Option<Vec<u32>>, AllocError>
-    ensures { IfOk result (λ o. option_map vec_items o ≡ option_map (λ ns. cells.items ++ ns) (exactly columns (words text.now))) }
+    cells: &mut Vec<u32>,
+) -> Result<(), Stop<Fault>>
+    ensures { Adds cells.old.items cells.new.items line.entry.number columns (words line.entry.text.now) result }
 {
-    let mut rest = text;
-    let mut cells = cells;
+    let unfit = malformed(line.number, Expected::Row { columns });
+    let mut rest = line.text;
     for _ in 0..columns {
-        let Some((word, after)) = split_word(rest) else {
-            return Ok(None);
-        };
-        let Some(number) = parse_number(word) else {
-            return Ok(None);
-        };
-        cells.push(number)?;
+        let (word, after) = split_word(rest).ok_or(unfit)?;
+        let number = parse_number(word).ok_or(unfit)?;
+        cells.push(number).map_err(AllocError::from)?;
         rest = after;
     }
     match split_word(rest) {
-        None => Ok(Some(cells)),
-        Some(_) => Ok(None),
+        None => Ok(()),
+        Some(_) => Err(unfit),
     }
 }

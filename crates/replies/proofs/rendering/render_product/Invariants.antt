@@ -1,7 +1,8 @@
 use Rattle.std.proofs.Common.{◌≡◌, ◌-◌, ◌++◌, string_bytes}
 use Rattle.std.specs.List.{flat_map}
 use Rattle.requests.specs.Asked.{matrix_of}
-use Rattle.requests.specs.Written.{line_of, row_words}
+use Rattle.requests.specs.Written.{row_words}
+use Rattle.text.specs.Canonical.{line_of}
 use Rattle.replies.specs.ReplyText.{product_text}
 use Rattle.replies.proofs.rendering.render_product.Given as goal
 
