@@ -1,42 +1,31 @@
--- What is replied to a request: a matrix, or a refusal by its number and values.
+-- What is replied to a request: a matrix, or a refusal.
 use Rattle.std.specs.Prelude.{length, Ok, Err, Result}
+use Rattle.std.specs.Result.{result_and}
 use Rattle.algebra.specs.Meaning.{Meaning}
 use Rattle.algebra.specs.Matrix.{Matrix}
-use Rattle.algebra.specs.Outcome.{Told}
 use Rattle.windows.specs.Product.{product_answer, product_cells}
-use Rattle.windows.specs.Refusals.{told}
 use Rattle.windows.specs.Sides.{checked}
+use Rattle.windows.specs.declared.refusal.Refusal.{Refusal}
 use Rattle.rings.specs.Modulo.{residues, words}
 use Rattle.rings.specs.Octets.{octets}
 use Rattle.requests.specs.Asked.{Asked, product, matrix_of}
 use Rattle.requests.specs.declared.request.RingName.{RingName}
 use Rattle.requests.specs.declared.request.RingName.TheVariants.{Words, Residues, Octets, OctetsByShifts}
-use Rattle.replies.specs.declared.reply.Reply.{Reply}
-use Rattle.replies.specs.declared.reply.Reply.TheVariants.{Product, Refused}
-
--- a check, and where it passes another
-abbrev pub and_then : Result (Unit {0}) Told → Result (Unit {0}) Told → Result (Unit {0}) Told
-and_then (Ok x) next = next
-and_then (Err t) next = Err t
+use Rattle.requests.specs.declared.request.Table.{Table}
 
 -- the check of a matrix as a window
-abbrev pub checked_matrix : Matrix → Result (Unit {0}) Told
+abbrev pub checked_matrix : Matrix → Result (Unit {0}) Refusal
 checked_matrix a = checked a.rows a.columns (length a.cells)
 
 -- the checks of both matrices, and then those of their product
-abbrev pub product_verdict : Meaning → Matrix → Matrix → Result (Unit {0}) Told
+abbrev pub product_verdict : Meaning → Matrix → Matrix → Result (Unit {0}) Refusal
 product_verdict m a b =
-    and_then (and_then (checked_matrix a) (checked_matrix b)) (product_answer m.order a b a.rows b.columns)
+    result_and (result_and (checked_matrix a) (checked_matrix b)) (product_answer m.order a b a.rows b.columns)
 
--- the matrix where the checks pass
-abbrev pub if_passed : Matrix → Result (Unit {0}) Told → Result Matrix Told
-if_passed c (Ok x) = Ok c
-if_passed c (Err t) = Err t
-
--- the product of two matrices
-abbrev pub product_reply : Meaning → Matrix → Matrix → Result Matrix Told
+-- the product of two matrices, where the checks pass
+abbrev pub product_reply : Meaning → Matrix → Matrix → Result Matrix Refusal
 product_reply m a b =
-    if_passed (record { rows = a.rows; columns = b.columns; cells = product_cells m a b }) (product_verdict m a b)
+    result_and (product_verdict m a b) (Ok (record { rows = a.rows; columns = b.columns; cells = product_cells m a b }))
 
 -- the ring of a name
 abbrev pub meaning_of : RingName → Meaning
@@ -46,10 +35,10 @@ meaning_of Octets = octets
 meaning_of OctetsByShifts = octets
 
 -- what a request is to be answered with
-abbrev pub reply_to : Asked → Result Matrix Told
+abbrev pub reply_to : Asked → Result Matrix Refusal
 reply_to (product ring a b) = product_reply (meaning_of ring) a b
 
 -- what a reply says
-abbrev pub replied : Reply → Result Matrix Told
-replied (Product table) = Ok (matrix_of table)
-replied (Refused refusal) = Err (told refusal)
+abbrev pub replied : Result Table Refusal → Result Matrix Refusal
+replied (Ok table) = Ok (matrix_of table)
+replied (Err refusal) = Err refusal

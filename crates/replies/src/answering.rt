@@ -16,9 +16,8 @@ use std::alloc::{AllocError, Global};
 pub fn answer(heap: Global, request: Request) -> Result<Reply, AllocError>
     ensures { IfOk result (λ reply. replied reply ≡ reply_to (asked_by request)) }
 {
-    match request {
-        Request::Product { ring, left, right } => multiply_over(heap, ring, left, right),
-    }
+    let Request::Product { ring, left, right } = request;
+    multiply_over(heap, ring, left, right)
 }
 
 // The product over the ring of a name.

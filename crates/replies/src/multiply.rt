@@ -1,11 +1,10 @@
 // The product of two tables over any ring.
-ghost use Rattle.std.specs.Prelude.{◌≡◌, length, IfOk, Ok};
-ghost use Rattle.algebra.specs.Outcome.{outcome, unless_refused};
+ghost use Rattle.std.specs.Prelude.{◌≡◌, ◌*◌, length, IfOk, Ok};
+ghost use Rattle.std.specs.Result.{result_and};
+ghost use Rattle.algebra.specs.Outcome.{unless_refused};
 ghost use Rattle.windows.specs.Product.{product_answer, product_cells};
-ghost use Rattle.windows.specs.Refusals.{told};
-ghost use Rattle.windows.specs.Sides.{checked};
 ghost use Rattle.requests.specs.Asked.{matrix_of};
-ghost use Rattle.replies.specs.Replies.{and_then, checked_matrix, product_reply, replied};
+ghost use Rattle.replies.specs.Replies.{checked_matrix, product_reply, replied};
 
 use crate::reply::Reply;
 use algebra::ring::Ring;
@@ -25,57 +24,48 @@ pub(crate) fn multiply<R: Ring>(
     ensures { IfOk result (λ reply. replied reply ≡ product_reply (R.Ring.meaning r.now) (matrix_of left) (matrix_of right)) }
 {
     if let Err(refusal) = check_tables(&left, &right) {
-        return Ok(Reply::Refused(refusal));
+        return Ok(Err(refusal));
     }
     let mut left = left;
     let mut right = right;
     let rows = left.rows;
     let columns = right.columns;
     let mut cells = vec![in heap; 0u32; rows * columns]?;
-    match multiply_slices(
-        r,
-        &mut left.cells,
-        &mut right.cells,
-        &mut cells,
-        rows,
-        left.columns,
-        right.rows,
-        columns,
-    ) {
-        Ok(()) => Ok(Reply::Product(Table {
+    match write_product(r, &mut left, &mut right, &mut cells) {
+        Ok(()) => Ok(Ok(Table {
             rows,
             columns,
             cells,
         })),
-        Err(refusal) => Ok(Reply::Refused(refusal)),
+        Err(refusal) => Ok(Err(refusal)),
     }
 }
 
 // Whether both tables can be shown as windows.
 fn check_tables(left: &Table, right: &Table) -> Result<(), Refusal>
-    ensures { outcome told result ≡ and_then (checked_matrix (matrix_of left.now)) (checked_matrix (matrix_of right.now)) }
+    ensures { result ≡ result_and (checked_matrix (matrix_of left.now)) (checked_matrix (matrix_of right.now)) }
 {
     check(left.rows, left.columns, left.cells.len())?;
     check(right.rows, right.columns, right.cells.len())
 }
 
-// The product of `a`, of rows of `middle` codes, and `b`, of `height` rows, written into `c`.
-fn multiply_slices<R: Ring>(
+// Writes the product of tables for which the check passed into as many cells as it has.
+fn write_product<R: Ring>(
     r: &R,
-    a: &mut [u32],
-    b: &mut [u32],
-    c: &mut [u32],
-    rows: usize,
-    middle: usize,
-    height: usize,
-    columns: usize,
+    left: &mut Table,
+    right: &mut Table,
+    cells: &mut [u32],
 ) -> Result<(), Refusal>
-    requires { (checked rows middle (length a.old) ≡ Ok tt) × ((checked height columns (length b.old) ≡ Ok tt) × (checked rows columns (length c.old) ≡ Ok tt)) }
-    ensures answer { outcome told result ≡ product_answer (R.Ring.meaning r.now).order (record { rows = rows; columns = middle; cells = a.old }) (record { rows = height; columns = columns; cells = b.old }) rows columns }
-    ensures written { c.new ≡ unless_refused result (product_cells (R.Ring.meaning r.now) (record { rows = rows; columns = middle; cells = a.old }) (record { rows = height; columns = columns; cells = b.old })) c.old }
+    requires left_passes { checked_matrix (matrix_of left.old) ≡ Ok tt }
+    requires right_passes { checked_matrix (matrix_of right.old) ≡ Ok tt }
+    requires fits { length cells.old ≡ left.old.rows * right.old.columns }
+    ensures answer { result ≡ product_answer (R.Ring.meaning r.now).order (matrix_of left.old) (matrix_of right.old) left.old.rows right.old.columns }
+    ensures written { cells.new ≡ unless_refused result (product_cells (R.Ring.meaning r.now) (matrix_of left.old) (matrix_of right.old)) cells.old }
 {
-    let left = Window::new(a, rows, middle);
-    let right = Window::new(b, height, columns);
-    let into = Window::new(c, rows, columns);
-    product(r, &left, &right, into)
+    let rows = left.rows;
+    let columns = right.columns;
+    let a = Window::new(&mut left.cells, rows, left.columns);
+    let b = Window::new(&mut right.cells, right.rows, columns);
+    let c = Window::new(cells, rows, columns);
+    product(r, &a, &b, c)
 }

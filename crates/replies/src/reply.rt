@@ -1,9 +1,5 @@
-// What a request is answered with.
+// What a request is answered with: the product, or why there is none.
 use requests::request::Table;
 use windows::refusal::Refusal;
 
-#[derive(Drop)]
-pub enum Reply {
-    Product(Table),
-    Refused(Refusal),
-}
+pub type Reply = Result<Table, Refusal>;

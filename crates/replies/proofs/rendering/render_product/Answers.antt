@@ -1,12 +1,19 @@
-use Rattle.std.proofs.Common.{string_bytes}
-use Rattle.requests.specs.Asked.{matrix_of}
-use Rattle.replies.specs.ReplyText.{product_text}
-use Rattle.replies.proofs.Spelling.{row_written}
+-- With a row written, one row less is left.
+use Rattle.std.proofs.Common.{◌≡◌, ℕ, suc, ◌+◌, ◌-◌, ◌<◌, List, ◌++◌, map, take, drop, decimal, ap, ◌∙◌, append_assoc, arith}
+use Rattle.std.specs.List.{flat_map}
+use Rattle.std.proofs.lemmas.List.{take_min, drop_min}
+use Rattle.requests.specs.Written.{row_words}
+use Rattle.text.specs.Canonical.{line_of}
 use Rattle.replies.proofs.rendering.render_product.Goals as goal
 
-pub loop-row-preserved : goal.loop-row-preserved
-loop-row-preserved c =
-    row_written c.args.table.now.columns c.min.result c.loop-row.rest.now c.min.ensures
-    (string_bytes c.loop-row.text) (string_bytes c.in_ok-text-2.text) (product_text (matrix_of c.args.table.now))
-    c.split_at.result.0.now c.split_at.result.1.now c.args.table.now.rows c.loop-row._row c.loop-row-test.true
-    c.split_at.ensures.front c.split_at.ensures.back c.in_ok-text-2.ensures c.loop-row.invariant
+row_written : (before cells : List ℕ) (columns rows i : ℕ) → i < rows
+    → (before ++ line_of (map decimal (take columns cells))) ++ flat_map line_of (row_words (rows - (i + 1)) columns (drop columns cells)) ≡ before ++ flat_map line_of (row_words (rows - i) columns cells)
+row_written before cells columns rows i h =
+    let one : suc (rows - (i + 1)) ≡ rows - i = omega arith in
+    append_assoc before (line_of (map decimal (take columns cells))) (flat_map line_of (row_words (rows - (i + 1)) columns (drop columns cells)))
+    ∙ ap (λ n. before ++ flat_map line_of (row_words n columns cells)) one
+
+pub loop-preserved : goal.loop-preserved
+loop-preserved c =
+    rw (c.in_ok-push_row.ensures, c.split_at.ensures.front, c.split_at.ensures.back, c.min.ensures, take_min, drop_min)
+    (row_written _ _ _ _ _ c.loop-test.true ∙ c.loop.invariant)

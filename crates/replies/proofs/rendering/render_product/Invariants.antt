@@ -7,6 +7,6 @@ use Rattle.replies.specs.ReplyText.{product_text}
 use Rattle.replies.proofs.rendering.render_product.Given as goal
 
 -- the rows that are left complete the text
-abbrev pub invariant-loop-row : goal.invariant-loop-row
-invariant-loop-row l =
-    string_bytes l.text ++ flat_map line_of (row_words (l.table.rows - l._row) l.table.columns l.rest) ≡ product_text (matrix_of l.table)
+abbrev pub invariant-loop : goal.invariant-loop
+invariant-loop l =
+    string_bytes l.text ++ flat_map line_of (row_words (l.table.rows - l.counter) l.table.columns l.rest) ≡ product_text (matrix_of l.table)
