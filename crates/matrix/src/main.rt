@@ -4,7 +4,6 @@
 use anyhow::anyhow;
 use replies::answering::answer;
 use replies::rendering::render;
-use requests::fault::Fault;
 use requests::reading::parse;
 use requests::request::Request;
 use std::io::Read;
@@ -14,11 +13,7 @@ use std::{env, fs};
 // Where the status is 1, the reason was printed.
 fn main(rt: HostRuntime) -> ExitCode {
     match run(&rt) {
-        Ok(None) => ExitCode::SUCCESS,
-        Ok(Some(fault)) => {
-            let _ = eprintln!(rt; "matrix: {fault}");
-            ExitCode::FAILURE
-        }
+        Ok(()) => ExitCode::SUCCESS,
         Err(error) => {
             let _ = eprintln!(rt; "matrix: {error}");
             ExitCode::FAILURE
@@ -26,14 +21,17 @@ fn main(rt: HostRuntime) -> ExitCode {
     }
 }
 
-// Prints the replies to the requests before the first fault, which is returned.
-fn run(rt: &HostRuntime) -> anyhow::Result<Option<Fault>> {
+// Prints the replies to the requests before the first fault, which is the error.
+fn run(rt: &HostRuntime) -> anyhow::Result<()> {
     let text = read_text(rt)?;
     let parsed = parse(rt.alloc(), &text)?;
     for request in parsed.requests {
         print_reply(rt, request)?;
     }
-    Ok(parsed.fault)
+    match parsed.fault {
+        None => Ok(()),
+        Some(fault) => Err(anyhow!("{fault}")),
+    }
 }
 
 fn print_reply(rt: &HostRuntime, request: Request) -> anyhow::Result<()> {
@@ -61,8 +59,5 @@ fn read_text(rt: &HostRuntime) -> anyhow::Result<Vec<u8>> {
 }
 
 fn read_file(rt: &HostRuntime, path: String) -> anyhow::Result<Vec<u8>> {
-    match fs::read(rt, path.as_str()) {
-        Ok(text) => Ok(text),
-        Err(error) => Err(anyhow!(format!(in rt.alloc(); "cannot read {path}: {error}")?)),
-    }
+    fs::read(rt, path.as_str()).map_err(|error| anyhow!("cannot read {path}: {error}"))
 }
