@@ -35,4 +35,4 @@ advice_text o = cond (o == 0) (codes "do not book the antenna: every symbol is k
 
 abbrev pub report_text : List Symbol → List ℕ
 report_text symbols =
-    heading_text (length symbols) (open_count symbols) ++ (status_texts 0 symbols ++ advice_text (open_count symbols))
+    (heading_text (length symbols) (open_count symbols) ++ status_texts 0 symbols) ++ advice_text (open_count symbols)

@@ -1,7 +1,5 @@
 // The line that each call is answered with. Every line ends with a line feed.
-ghost use Rattle.std.specs.Prelude.{◌≡◌, [], ◌∷◌, IfOk, string_bytes};
-ghost use Rattle.algebra.specs.Outcome.{outcome};
-ghost use Rattle.logs.specs.Refusals.{told};
+ghost use Rattle.std.specs.Prelude.{◌≡◌, IfOk, string_bytes};
 ghost use Rattle.answers.specs.CallText.{answer_text, kernel_text, numbers_text, or_refusal, published_text, rank_text, refusal_text, solution_text, symbol_text};
 
 use logs::answer::{Answer, Symbol};
@@ -11,25 +9,9 @@ use text::writing::push_more_numbers;
 
 // `refused` with the number, and the position if the refusal carries one.
 pub fn refusal_line(heap: Global, refusal: Refusal) -> Result<String, AllocError>
-    ensures { IfOk result (λ s. string_bytes s ≡ refusal_text (told refusal)) }
+    ensures { IfOk result (λ s. string_bytes s ≡ refusal_text refusal) }
 {
-    let number = refusal.number();
-    match refusal {
-        Refusal::Code { position } => render_position(heap, number, position),
-        _ => render_number(heap, number),
-    }
-}
-
-fn render_number(heap: Global, number: u32) -> Result<String, AllocError>
-    ensures { IfOk result (λ s. string_bytes s ≡ refusal_text (record { number = number; values = [] })) }
-{
-    format!(in heap; "refused {number}\n")
-}
-
-fn render_position(heap: Global, number: u32, position: usize) -> Result<String, AllocError>
-    ensures { IfOk result (λ s. string_bytes s ≡ refusal_text (record { number = number; values = position ∷ [] })) }
-{
-    format!(in heap; "refused {number} position {position}\n")
+    format!(in heap; "{refusal}\n")
 }
 
 // The answer to an offer, with the weights unless the equation is kept.
@@ -38,12 +20,14 @@ pub fn offer_line(
     answer: Result<Answer, Refusal>,
     weights: &[u32],
 ) -> Result<String, AllocError>
-    ensures { IfOk result (λ s. string_bytes s ≡ or_refusal (answer_text weights.now) (outcome told answer)) }
+    ensures { IfOk result (λ s. string_bytes s ≡ or_refusal (answer_text weights.now) answer) }
 {
     match answer {
-        Ok(Answer::Kept(before)) => format!(in heap; "kept {before}\n"),
-        Ok(Answer::Implied) => numbers_line(heap, "implied weights", weights),
-        Ok(Answer::Contradiction) => numbers_line(heap, "contradiction weights", weights),
+        Ok(kept @ Answer::Kept(_)) => format!(in heap; "{kept}\n"),
+        Ok(answer) => {
+            let head = format!(in heap; "{answer} weights")?;
+            numbers_line(heap, head.as_str(), weights)
+        }
         Err(refusal) => refusal_line(heap, refusal),
     }
 }
@@ -66,7 +50,7 @@ pub fn solution_line(
     answer: Result<(), Refusal>,
     out: &[u32],
 ) -> Result<String, AllocError>
-    ensures { IfOk result (λ s. string_bytes s ≡ or_refusal (λ _. solution_text out.now) (outcome told answer)) }
+    ensures { IfOk result (λ s. string_bytes s ≡ or_refusal (λ _. solution_text out.now) answer) }
 {
     match answer {
         Ok(()) => numbers_line(heap, "solution", out),
@@ -81,10 +65,13 @@ pub fn kernel_line(
     answer: Result<(), Refusal>,
     out: &[u32],
 ) -> Result<String, AllocError>
-    ensures { IfOk result (λ s. string_bytes s ≡ or_refusal (λ _. kernel_text k out.now) (outcome told answer)) }
+    ensures { IfOk result (λ s. string_bytes s ≡ or_refusal (λ _. kernel_text k out.now) answer) }
 {
     match answer {
-        Ok(()) => render_kernel(heap, k, out),
+        Ok(()) => {
+            let head = format!(in heap; "kernel {k}:")?;
+            numbers_line(heap, head.as_str(), out)
+        }
         Err(refusal) => refusal_line(heap, refusal),
     }
 }
@@ -95,20 +82,12 @@ pub fn symbol_line(
     j: usize,
     answer: Result<Symbol, Refusal>,
 ) -> Result<String, AllocError>
-    ensures { IfOk result (λ s. string_bytes s ≡ or_refusal (symbol_text j) (outcome told answer)) }
+    ensures { IfOk result (λ s. string_bytes s ≡ or_refusal (symbol_text j) answer) }
 {
     match answer {
-        Ok(Symbol::Known(code)) => format!(in heap; "symbol {j} known {code}\n"),
-        Ok(Symbol::Open(k)) => format!(in heap; "symbol {j} open {k}\n"),
+        Ok(symbol) => format!(in heap; "symbol {j} {symbol}\n"),
         Err(refusal) => refusal_line(heap, refusal),
     }
-}
-
-fn render_kernel(heap: Global, k: usize, entries: &[u32]) -> Result<String, AllocError>
-    ensures { IfOk result (λ s. string_bytes s ≡ kernel_text k entries.now) }
-{
-    let head = format!(in heap; "kernel {k}:")?;
-    numbers_line(heap, head.as_str(), entries)
 }
 
 // The head, numbers after it, each with a blank before it, and a line feed.

@@ -1,93 +1,64 @@
 // The report on the symbols of a block, for a person.
 ghost use Rattle.std.specs.Prelude.{◌≡◌, ◌++◌, length, IfOk, string_bytes};
-ghost use Rattle.answers.specs.ReportText.{advice_text, booking_text, heading_text, is_open, open_count, report_text, status_text, status_texts};
+ghost use Rattle.answers.specs.ReportText.{advice_text, open_count, report_text, status_text, status_texts};
 
 use crate::plural::{noun_ending, to_be};
 use logs::answer::Symbol;
 use std::alloc::{AllocError, Global};
 
-fn is_open(symbol: Symbol) -> bool
-    ensures { result ≡ is_open symbol }
-{
-    match symbol {
-        Symbol::Known(_) => false,
-        Symbol::Open(_) => true,
-    }
-}
-
 // How many symbols are open.
 pub fn count_open(symbols: &[Symbol]) -> usize
     ensures { result ≡ open_count symbols.now }
 {
-    let mut count = 0;
-    for symbol in symbols {
-        if is_open(*symbol) {
-            count += 1;
-        }
-    }
-    count
+    symbols
+        .iter()
+        .filter(|symbol| matches!(symbol, Symbol::Open(_)))
+        .count()
 }
 
 // A heading with the counts, a line for each symbol, and whether to book the antenna once more.
 pub fn report(heap: Global, symbols: &[Symbol]) -> Result<String, AllocError>
     ensures { IfOk result (λ s. string_bytes s ≡ report_text symbols.now) }
 {
-    let open = count_open(symbols);
-    let text = render_heading(heap, symbols.len(), open)?;
-    let mut text = push_statuses(heap, text, symbols)?;
-    let advice = render_advice(heap, open)?;
-    text.push_str(advice.as_str())?;
-    Ok(text)
-}
-
-fn render_heading(heap: Global, count: usize, open: usize) -> Result<String, AllocError>
-    ensures { IfOk result (λ s. string_bytes s ≡ heading_text count «open») }
-{
+    let count = symbols.len();
     let of_symbol = noun_ending(count);
-    format!(in heap; "report: {count} symbol{of_symbol}, {open} open\n")
-}
-
-// The text with a line for each symbol after it.
-fn push_statuses(heap: Global, text: String, symbols: &[Symbol]) -> Result<String, AllocError>
-    ensures { IfOk result (λ s. string_bytes s ≡ string_bytes text ++ status_texts 0 symbols.now) }
-{
-    let mut text = text;
-    for (j, symbol) in symbols.iter().enumerate() {
-        let line = render_status(heap, j, *symbol)?;
-        text.push_str(line.as_str())?;
-    }
+    let open = count_open(symbols);
+    let mut text = format!(in heap; "report: {count} symbol{of_symbol}, {open} open\n")?;
+    push_statuses(&mut text, symbols)?;
+    push_advice(&mut text, open)?;
     Ok(text)
 }
 
-fn render_status(heap: Global, j: usize, symbol: Symbol) -> Result<String, AllocError>
-    ensures { IfOk result (λ s. string_bytes s ≡ status_text j symbol) }
+// A line for each symbol.
+fn push_statuses(text: &mut String, symbols: &[Symbol]) -> Result<(), AllocError>
+    ensures { IfOk result (λ _. string_bytes text.new ≡ string_bytes text.old ++ status_texts 0 symbols.now) }
+{
+    for (j, symbol) in symbols.iter().enumerate() {
+        push_status(text, j, symbol)?;
+    }
+    Ok(())
+}
+
+fn push_status(text: &mut String, j: usize, symbol: &Symbol) -> Result<(), AllocError>
+    ensures { IfOk result (λ _. string_bytes text.new ≡ string_bytes text.old ++ status_text j symbol.now) }
 {
     match symbol {
-        Symbol::Known(code) => format!(in heap; "  symbol {j}: {code}\n"),
-        Symbol::Open(k) => render_open(heap, j, k),
+        Symbol::Known(code) => write!(text, "  symbol {j}: {code}\n"),
+        Symbol::Open(k) => write!(text, "  symbol {j}: open, kernel vector {k} moves it\n"),
     }
 }
 
-fn render_open(heap: Global, j: usize, k: usize) -> Result<String, AllocError>
-    ensures { IfOk result (λ s. string_bytes s ≡ status_text j (Symbol.Open k)) }
-{
-    format!(in heap; "  symbol {j}: open, kernel vector {k} moves it\n")
-}
-
-fn render_advice(heap: Global, open: usize) -> Result<String, AllocError>
-    ensures { IfOk result (λ s. string_bytes s ≡ advice_text «open») }
+fn push_advice(text: &mut String, open: usize) -> Result<(), AllocError>
+    ensures { IfOk result (λ _. string_bytes text.new ≡ string_bytes text.old ++ advice_text «open») }
 {
     if open == 0 {
-        String::from_str(heap, "do not book the antenna: every symbol is known\n")
+        text.push_str("do not book the antenna: every symbol is known\n")
     } else {
-        render_booking(heap, open)
+        let of_symbol = noun_ending(open);
+        let are = to_be(open);
+        write!(
+            text,
+            "book the antenna: {open} symbol{of_symbol} {are} open\n"
+        )
     }
-}
-
-fn render_booking(heap: Global, open: usize) -> Result<String, AllocError>
-    ensures { IfOk result (λ s. string_bytes s ≡ booking_text «open») }
-{
-    let of_symbol = noun_ending(open);
-    let are = to_be(open);
-    format!(in heap; "book the antenna: {open} symbol{of_symbol} {are} open\n")
 }
