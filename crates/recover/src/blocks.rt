@@ -1,98 +1,121 @@
 // The blocks of a pass: each opens a collection, makes calls on it, and asks questions once it is published.
-ghost use Rattle.std.specs.Prelude.{◌<◌, ◌≤◌, length, MatchOption};
+ghost use Rattle.std.specs.Prelude.{length};
+ghost use Rattle.std.specs.Iterator.{at_most};
 
+use algebra::field::Field;
 use commands::command::Command;
-use pass::recording::Call;
+use logs::refusal::Refusal;
+use pass::recording::{Call, Recording, record};
+use pass::stop::Stop;
 use recovery::table::UNKNOWNS;
 use std::alloc::{AllocError, Global};
 
-// One block, as a part of the commands: those before its publication, and those after it.
+// One block, as a part of the commands.
 #[derive(Clone, Copy)]
 pub(crate) struct Block<'a> {
     pub(crate) unknowns: usize,
+    // The commands before its publication.
     pub(crate) calls: &'a [Command],
-    pub(crate) published: bool,
-    pub(crate) questions: &'a [Command],
+    // The commands after its publication, where it is published.
+    pub(crate) questions: Option<&'a [Command]>,
 }
 
-// How many commands stand before the next one that opens a block.
-fn until_unknowns(commands: &[Command]) -> usize
-    ensures { result ≤ length commands.now }
-{
-    for (i, command) in commands.iter().enumerate() {
-        if let Command::Unknowns(_) = command {
-            return i;
+impl Block<'_> {
+    // How many commands it has, with those that open and publish it.
+    pub(crate) fn count_commands(&self) -> usize {
+        let opened = self.calls.len().saturating_add(1);
+        match self.questions {
+            Some(questions) => opened.saturating_add(questions.len()).saturating_add(1),
+            None => opened,
         }
     }
-    commands.len()
 }
 
-// How many commands stand before the publication.
-fn until_publish(commands: &[Command]) -> usize
-    ensures { result ≤ length commands.now }
-{
-    for (i, command) in commands.iter().enumerate() {
-        if let Command::Publish = command {
-            return i;
-        }
+// The blocks of the commands that are left.
+#[derive(Drop)]
+pub(crate) struct Blocks<'a> {
+    rest: &'a [Command],
+}
+
+impl<'a> Blocks<'a> {
+    pub(crate) fn new(commands: &'a [Command]) -> Blocks<'a> {
+        Blocks { rest: commands }
     }
-    commands.len()
 }
 
-// The first block, and the commands after it.
-pub(crate) fn next_block(commands: &[Command]) -> Option<(Block<'_>, &[Command])>
-    ensures { MatchOption result (length commands.now ≤ length commands.now) (λ p. length p.1.now < length commands.now) }
-{
-    let [first, rest @ ..] = commands else {
-        return None;
-    };
-    let Command::Unknowns(unknowns) = first else {
-        return None;
-    };
-    let (block, after) = rest.split_at(until_unknowns(rest));
-    let (calls, ending) = block.split_at(until_publish(block));
-    let published = !ending.is_empty();
-    let (_, questions) = ending.split_at(ending.len().min(1));
-    let block = Block {
-        unknowns: *unknowns,
-        calls,
-        published,
-        questions,
-    };
-    Some((block, after))
-}
+impl<'a> Iterator for Blocks<'a> {
+    type Item = Block<'a>;
 
-// The first block that is published, and the commands after it.
-pub(crate) fn next_published(commands: &[Command]) -> Option<(Block<'_>, &[Command])> {
-    let mut rest = commands;
-    while let Some((block, after)) = next_block(rest) {
-        if block.published {
-            return Some((block, after));
-        }
-        rest = after;
+    ghost remaining = { λ s. at_most (length s.rest.now) };
+
+    fn next(&mut self) -> Option<Block<'a>> {
+        let [Command::Unknowns(unknowns), rest @ ..] = self.rest else {
+            return None;
+        };
+        let next = rest
+            .iter()
+            .position(|command| matches!(command, Command::Unknowns(_)));
+        let (block, after) = rest.split_at(next.unwrap_or(rest.len()));
+        self.rest = after;
+        Some(cut_block(*unknowns, block))
     }
-    None
+}
+
+// A block with these commands after the one that opens it.
+fn cut_block(unknowns: usize, commands: &[Command]) -> Block<'_> {
+    let publication = commands
+        .iter()
+        .position(|command| matches!(command, Command::Publish));
+    match publication {
+        Some(at) => Block {
+            unknowns,
+            calls: &commands[..at],
+            questions: Some(&commands[at + 1..]),
+        },
+        None => Block {
+            unknowns,
+            calls: commands,
+            questions: None,
+        },
+    }
+}
+
+pub(crate) fn published_blocks(
+    heap: Global,
+    commands: &[Command],
+) -> Result<Vec<Block<'_>>, AllocError> {
+    Blocks::new(commands)
+        .filter(|block| block.questions.is_some())
+        .collect(heap)
+}
+
+// The block with its calls made, or why its collection is not opened.
+pub(crate) fn record_block<F: Field + Drop>(
+    heap: Global,
+    field: F,
+    block: &Block,
+) -> Result<Result<Recording<F>, Refusal>, AllocError> {
+    match record(heap, field, block.unknowns, calls_of(heap, block)?) {
+        Ok(recording) => Ok(Ok(recording)),
+        Err(Stop::Refused(refusal)) => Ok(Err(refusal)),
+        Err(Stop::OutOfMemory(error)) => Err(error),
+    }
 }
 
 // The calls of a block as data, each offer with a slice of zeros for its weights. (With more unknowns than a collection can have,
 // the block is refused before any call is made.)
-pub(crate) fn calls_of(heap: Global, block: &Block) -> Result<Vec<Call>, AllocError> {
+fn calls_of(heap: Global, block: &Block) -> Result<Vec<Call>, AllocError> {
     let mut calls = Vec::new(heap);
     for command in block.calls {
         match command {
             Command::Offer {
                 coefficients,
                 value,
-            } => {
-                let weights = vec![in heap; 0; block.unknowns.min(UNKNOWNS)]?;
-                let coefficients = coefficients.clone()?;
-                let value = *value;
-                calls.push(Call::Offer {
-                    coefficients,
-                    value,
-                    weights,
-                })?;
-            }
+            } => calls.push(Call::Offer {
+                coefficients: coefficients.clone()?,
+                value: *value,
+                weights: vec![in heap; 0; block.unknowns.min(UNKNOWNS)]?,
+            })?,
             Command::Rank => calls.push(Call::Rank)?,
             _ => {}
         }

@@ -1,5 +1,5 @@
 // Comparing two passes by every answer that they publish, block by block.
-use crate::blocks::{Block, calls_of, next_published};
+use crate::blocks::{Block, published_blocks, record_block};
 use crate::input::read_file;
 use crate::questions::reply_line;
 use crate::solving::rank_of;
@@ -8,13 +8,41 @@ use answers::passes::{agree_line, differ_line};
 use commands::command::{Command, FieldName};
 use commands::reading::{Parsed, parse};
 use pass::comparison::{Difference, compare};
-use pass::recording::{Recording, record};
-use pass::stop::Stop;
 use rings::octets::by_shifts::OctetsByShifts;
 use rings::octets::by_table::OctetsByTable;
 use rings::residues::Residues;
+use std::alloc::{AllocError, Global};
+use std::cmp::Ordering;
+use std::process::ExitCode;
 
-// Reads a pass; a fault is printed with the name of its file.
+// What two published blocks come to.
+enum Outcome {
+    // So many published answers, and all equal.
+    Agree { answers: usize },
+    // The first answers that differ, each as its line.
+    Differ { first: String, second: String },
+}
+
+// A success where the passes agree. A fault is printed with the name of its file.
+pub(crate) fn compare_passes(
+    rt: &HostRuntime,
+    first: &str,
+    second: &str,
+) -> anyhow::Result<ExitCode> {
+    let Some(a) = read_pass(rt, first)? else {
+        return Ok(ExitCode::FAILURE);
+    };
+    let Some(b) = read_pass(rt, second)? else {
+        return Ok(ExitCode::FAILURE);
+    };
+    match a.field {
+        FieldName::Residues => compare_with(rt, Residues, &a.commands, &b),
+        FieldName::Octets => compare_with(rt, OctetsByTable, &a.commands, &b),
+        FieldName::OctetsByShifts => compare_with(rt, OctetsByShifts, &a.commands, &b),
+    }
+}
+
+// The pass, or none where the text has a fault, which is printed.
 fn read_pass(rt: &HostRuntime, path: &str) -> anyhow::Result<Option<Parsed>> {
     let text = read_file(rt, path)?;
     let parsed = parse(rt.alloc(), &text)?;
@@ -25,31 +53,12 @@ fn read_pass(rt: &HostRuntime, path: &str) -> anyhow::Result<Option<Parsed>> {
     Ok(Some(parsed))
 }
 
-// Whether both texts fit, and the passes agree.
-pub(crate) fn compare_passes(
-    rt: &HostRuntime,
-    first: String,
-    second: String,
-) -> anyhow::Result<bool> {
-    let Some(a) = read_pass(rt, first.as_str())? else {
-        return Ok(false);
-    };
-    let Some(b) = read_pass(rt, second.as_str())? else {
-        return Ok(false);
-    };
-    match a.field {
-        FieldName::Residues => compare_with(rt, Residues, &a.commands, &b),
-        FieldName::Octets => compare_with(rt, OctetsByTable, &a.commands, &b),
-        FieldName::OctetsByShifts => compare_with(rt, OctetsByShifts, &a.commands, &b),
-    }
-}
-
 fn compare_with<F: Field + Copy + Drop>(
     rt: &HostRuntime,
     f: F,
     a: &[Command],
     b: &Parsed,
-) -> anyhow::Result<bool> {
+) -> anyhow::Result<ExitCode> {
     match b.field {
         FieldName::Residues => compare_blocks(rt, f, Residues, a, &b.commands),
         FieldName::Octets => compare_blocks(rt, f, OctetsByTable, a, &b.commands),
@@ -57,82 +66,85 @@ fn compare_with<F: Field + Copy + Drop>(
     }
 }
 
-// Prints the first difference, or that every published answer is equal. Whether the passes agree.
+// Prints the first difference, or that every published answer is equal.
 fn compare_blocks<F: Field + Copy + Drop, G: Field + Copy + Drop>(
     rt: &HostRuntime,
     f: F,
     g: G,
     a: &[Command],
     b: &[Command],
-) -> anyhow::Result<bool> {
-    let mut left = a;
-    let mut right = b;
+) -> anyhow::Result<ExitCode> {
+    let a = published_blocks(rt.alloc(), a)?;
+    let b = published_blocks(rt.alloc(), b)?;
     let mut answers: usize = 0;
-    for number in 0..u32::MAX as usize {
-        let Some((x, after)) = next_published(left) else {
-            return end_comparison(rt, number, answers, right);
-        };
-        left = after;
-        let Some((y, after)) = next_published(right) else {
-            return differ(rt, number.saturating_add(1), "published", "not there");
-        };
-        right = after;
-        match compare_block(rt, f, g, number.saturating_add(1), &x, &y)? {
-            Some(count) => answers = answers.saturating_add(count),
-            None => return Ok(false),
+    for (i, (x, y)) in a.iter().zip(b.iter()).enumerate() {
+        match compare_block(rt.alloc(), f, g, x, y)? {
+            Outcome::Agree { answers: more } => answers = answers.saturating_add(more),
+            Outcome::Differ { first, second } => {
+                return differ(rt, i + 1, first.as_str(), second.as_str());
+            }
         }
     }
-    Ok(true)
+    end_comparison(rt, answers, a.len(), b.len())
 }
 
-// The first pass has no more blocks.
+// So many answers are equal, and one of the passes may have more blocks.
 fn end_comparison(
     rt: &HostRuntime,
-    blocks: usize,
     answers: usize,
-    right: &[Command],
-) -> anyhow::Result<bool> {
-    if next_published(right).is_some() {
-        return differ(rt, blocks.saturating_add(1), "not there", "published");
+    first: usize,
+    second: usize,
+) -> anyhow::Result<ExitCode> {
+    match first.cmp(&second) {
+        Ordering::Less => differ(rt, first + 1, "not there", "published"),
+        Ordering::Greater => differ(rt, second + 1, "published", "not there"),
+        Ordering::Equal => {
+            let line = agree_line(rt.alloc(), first, answers)?;
+            print!(rt; "{line}")?;
+            Ok(ExitCode::SUCCESS)
+        }
     }
-    let line = agree_line(rt.alloc(), blocks, answers)?;
-    print!(rt; "{line}")?;
-    Ok(true)
 }
 
-fn differ(rt: &HostRuntime, block: usize, first: &str, second: &str) -> anyhow::Result<bool> {
+fn differ(rt: &HostRuntime, block: usize, first: &str, second: &str) -> anyhow::Result<ExitCode> {
     let line = differ_line(rt.alloc(), block, first.trim_end(), second.trim_end())?;
     print!(rt; "{line}")?;
-    Ok(false)
+    Ok(ExitCode::FAILURE)
 }
 
-// How many published answers of two blocks are equal, or none where they differ, which is printed.
 fn compare_block<F: Field + Drop, G: Field + Drop>(
-    rt: &HostRuntime,
+    heap: Global,
     f: F,
     g: G,
-    number: usize,
     x: &Block,
     y: &Block,
-) -> anyhow::Result<Option<usize>> {
+) -> Result<Outcome, AllocError> {
     if x.unknowns != y.unknowns {
-        let first = format!(in rt.alloc(); "{} unknowns", x.unknowns)?;
-        let second = format!(in rt.alloc(); "{} unknowns", y.unknowns)?;
-        differ(rt, number, first.as_str(), second.as_str())?;
-        return Ok(None);
+        let first = format!(in heap; "{} unknowns", x.unknowns)?;
+        let second = format!(in heap; "{} unknowns", y.unknowns)?;
+        return Ok(Outcome::Differ { first, second });
     }
-    let Some(a) = record_block(rt, f, x)? else {
-        return Ok(Some(1));
+    // a number of unknowns that is refused is answered alike
+    let Ok(a) = record_block(heap, f, x)? else {
+        return Ok(Outcome::Agree { answers: 1 });
     };
-    let Some(b) = record_block(rt, g, y)? else {
-        return Ok(Some(1));
+    let Ok(b) = record_block(heap, g, y)? else {
+        return Ok(Outcome::Agree { answers: 1 });
     };
-    match compare(rt.alloc(), x.unknowns, &a.published, &b.published)? {
-        Some(difference) => {
-            print_difference(rt, number, &difference)?;
-            Ok(None)
-        }
-        None => Ok(Some(answers_of(x.unknowns, rank_of(&a.events)))),
+    match compare(heap, x.unknowns, &a.published, &b.published)? {
+        Some(
+            Difference {
+                question,
+                first,
+                second,
+            },
+        ) => Ok(Outcome::Differ {
+            first: reply_line(heap, question, &first)?,
+            second: reply_line(heap, question, &second)?,
+        }),
+        None => Ok(Outcome::Agree {
+            answers: answers_of(x.unknowns, rank_of(&a.events)),
+        }),
     }
 }
 
@@ -140,29 +152,4 @@ fn compare_block<F: Field + Drop, G: Field + Drop>(
 fn answers_of(unknowns: usize, rank: usize) -> usize {
     let free = unknowns.saturating_sub(rank);
     free.saturating_add(unknowns).saturating_add(1)
-}
-
-// The block with its calls made, or none where its number of unknowns is refused.
-fn record_block<F: Field + Drop>(
-    rt: &HostRuntime,
-    field: F,
-    block: &Block,
-) -> anyhow::Result<Option<Recording<F>>> {
-    let calls = calls_of(rt.alloc(), block)?;
-    match record(rt.alloc(), field, block.unknowns, calls) {
-        Ok(recording) => Ok(Some(recording)),
-        Err(Stop::Refused(_)) => Ok(None),
-        Err(Stop::OutOfMemory(error)) => Err(error.into()),
-    }
-}
-
-fn print_difference(
-    rt: &HostRuntime,
-    number: usize,
-    difference: &Difference,
-) -> anyhow::Result<()> {
-    let first = reply_line(rt.alloc(), difference.question, &difference.first)?;
-    let second = reply_line(rt.alloc(), difference.question, &difference.second)?;
-    differ(rt, number, first.as_str(), second.as_str())?;
-    Ok(())
 }

@@ -5,10 +5,7 @@ use std::io::Read;
 
 // The whole file.
 pub(crate) fn read_file(rt: &HostRuntime, path: &str) -> anyhow::Result<Vec<u8>> {
-    match fs::read(rt, path) {
-        Ok(text) => Ok(text),
-        Err(error) => Err(anyhow!(format!(in rt.alloc(); "cannot read {path}: {error}")?)),
-    }
+    fs::read(rt, path).map_err(|error| anyhow!("cannot read {path}: {error}"))
 }
 
 // The whole standard input.

@@ -11,15 +11,13 @@ mod solving;
 use crate::comparing::compare_passes;
 use crate::input::{read_file, read_input};
 use crate::solving::solve_pass;
-use anyhow::anyhow;
+use anyhow::ensure;
 use std::env;
 use std::process::ExitCode;
 
-// Where the status is 1, the reason was printed.
 fn main(rt: HostRuntime) -> ExitCode {
     match run(&rt) {
-        Ok(true) => ExitCode::SUCCESS,
-        Ok(false) => ExitCode::FAILURE,
+        Ok(status) => status,
         Err(error) => {
             let _ = eprintln!(rt; "recover: {error}");
             ExitCode::FAILURE
@@ -27,16 +25,17 @@ fn main(rt: HostRuntime) -> ExitCode {
     }
 }
 
-// Whether all went well: the text fits, or the two passes agree.
-fn run(rt: &HostRuntime) -> anyhow::Result<bool> {
+// A success where the text fits, or where the two passes agree; a failure's reason is printed.
+fn run(rt: &HostRuntime) -> anyhow::Result<ExitCode> {
     let mut arguments = env::args(rt)?.skip(1);
     let first = arguments.next();
     let second = arguments.next();
-    if arguments.next().is_some() {
-        return Err(anyhow!("expected at most two arguments, files with the text of a pass"));
-    }
+    ensure!(
+        arguments.next().is_none(),
+        "expected at most two arguments, files with the text of a pass"
+    );
     match (first, second) {
-        (Some(first), Some(second)) => compare_passes(rt, first, second),
+        (Some(first), Some(second)) => compare_passes(rt, first.as_str(), second.as_str()),
         (Some(path), None) => solve_pass(rt, &read_file(rt, path.as_str())?),
         _ => solve_pass(rt, &read_input(rt)?),
     }

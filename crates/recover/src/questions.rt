@@ -2,6 +2,7 @@
 use algebra::field::Field;
 use answers::calls::{kernel_line, solution_line, symbol_line};
 use answers::report::report;
+use logs::answer::Symbol;
 use pass::asking::{Question, Reply, ask};
 use recovery::published::Published;
 use std::alloc::{AllocError, Global};
@@ -41,11 +42,8 @@ pub(crate) fn report_text<F: Field + Drop>(
     published: &Published<F>,
     unknowns: usize,
 ) -> Result<String, AllocError> {
-    let mut symbols = Vec::new(heap);
-    for j in 0..unknowns {
-        if let Ok(symbol) = published.unknown(j) {
-            symbols.push(symbol)?;
-        }
-    }
+    let symbols: Vec<Symbol> = (0..unknowns)
+        .filter_map(|j| published.unknown(j).ok())
+        .collect(heap)?;
     report(heap, &symbols)
 }

@@ -1,5 +1,5 @@
 // Solving a pass: its calls are recorded, and every answer is printed.
-use crate::blocks::{Block, calls_of, next_block};
+use crate::blocks::{Block, Blocks, record_block};
 use crate::questions::{ask_line, report_text};
 use algebra::field::Field;
 use answers::calls::{offer_line, published_line, rank_line, refusal_line};
@@ -8,28 +8,26 @@ use commands::reading::parse;
 use logs::answer::Answer;
 use logs::refusal::Refusal;
 use pass::asking::Question;
-use pass::recording::{Event, record};
-use pass::stop::Stop;
+use pass::recording::{Event, Recording};
 use recovery::published::Published;
 use rings::octets::by_shifts::OctetsByShifts;
 use rings::octets::by_table::OctetsByTable;
 use rings::residues::Residues;
+use std::process::ExitCode;
 
-// Prints the answers to the commands before the first fault, and then the fault. Whether there was none.
-pub(crate) fn solve_pass(rt: &HostRuntime, text: &[u8]) -> anyhow::Result<bool> {
+// Prints the answers to the commands before the first fault, and then the fault.
+pub(crate) fn solve_pass(rt: &HostRuntime, text: &[u8]) -> anyhow::Result<ExitCode> {
     let parsed = parse(rt.alloc(), text)?;
     match parsed.field {
         FieldName::Residues => solve_blocks(rt, Residues, &parsed.commands)?,
         FieldName::Octets => solve_blocks(rt, OctetsByTable, &parsed.commands)?,
         FieldName::OctetsByShifts => solve_blocks(rt, OctetsByShifts, &parsed.commands)?,
     }
-    match parsed.fault {
-        None => Ok(true),
-        Some(fault) => {
-            eprintln!(rt; "recover: {fault}")?;
-            Ok(false)
-        }
+    if let Some(fault) = parsed.fault {
+        eprintln!(rt; "recover: {fault}")?;
+        return Ok(ExitCode::FAILURE);
     }
+    Ok(ExitCode::SUCCESS)
 }
 
 fn solve_blocks<F: Field + Copy + Drop>(
@@ -37,47 +35,68 @@ fn solve_blocks<F: Field + Copy + Drop>(
     field: F,
     commands: &[Command],
 ) -> anyhow::Result<()> {
-    let mut rest = commands;
-    while let Some((block, after)) = next_block(rest) {
-        solve_block(rt, field, &block)?;
-        rest = after;
+    for block in Blocks::new(commands) {
+        match record_block(rt.alloc(), field, &block)? {
+            Ok(recording) => print_recording(rt, &block, &recording)?,
+            Err(refusal) => print_refused(rt, &block, refusal)?,
+        }
     }
     Ok(())
 }
 
-fn solve_block<F: Field + Drop>(rt: &HostRuntime, field: F, block: &Block) -> anyhow::Result<()> {
-    let calls = calls_of(rt.alloc(), block)?;
-    match record(rt.alloc(), field, block.unknowns, calls) {
-        Ok(recording) => {
-            for event in recording.events.as_slice() {
-                print_event(rt, event)?;
-            }
-            if block.published {
-                print_published(rt, block.unknowns, rank_of(&recording.events))?;
-            }
-            for question in block.questions {
-                print_question(rt, &recording.published, block.unknowns, question)?;
-            }
-            Ok(())
-        }
-        Err(Stop::Refused(refusal)) => print_refused(rt, block, refusal),
-        Err(Stop::OutOfMemory(error)) => Err(error.into()),
+// No collection was opened: each command of the block is refused.
+fn print_refused(rt: &HostRuntime, block: &Block, refusal: Refusal) -> anyhow::Result<()> {
+    let line = refusal_line(rt.alloc(), refusal)?;
+    for _command in 0..block.count_commands() {
+        print!(rt; "{line}")?;
     }
+    Ok(())
+}
+
+fn print_recording<F: Field + Drop>(
+    rt: &HostRuntime,
+    block: &Block,
+    recording: &Recording<F>,
+) -> anyhow::Result<()> {
+    for event in recording.events.as_slice() {
+        print_event(rt, event)?;
+    }
+    match block.questions {
+        Some(questions) => print_published(rt, block.unknowns, recording, questions),
+        None => Ok(()),
+    }
+}
+
+// The line of the publication, and the answers after it.
+fn print_published<F: Field + Drop>(
+    rt: &HostRuntime,
+    unknowns: usize,
+    recording: &Recording<F>,
+    questions: &[Command],
+) -> anyhow::Result<()> {
+    let rank = rank_of(&recording.events);
+    let line = published_line(rt.alloc(), rank, unknowns.saturating_sub(rank))?;
+    print!(rt; "{line}")?;
+    for question in questions {
+        print_question(rt, &recording.published, unknowns, question)?;
+    }
+    Ok(())
 }
 
 // How many equations were kept.
 pub(crate) fn rank_of(events: &[Event]) -> usize {
-    let mut kept: usize = 0;
-    for event in events {
-        if let Event::Offered {
-            answer: Ok(Answer::Kept(_)),
-            ..
-        } = event
-        {
-            kept = kept.saturating_add(1);
-        }
-    }
-    kept
+    events
+        .iter()
+        .filter(|event| {
+            matches!(
+                event,
+                Event::Offered {
+                    answer: Ok(Answer::Kept(_)),
+                    ..
+                }
+            )
+        })
+        .count()
 }
 
 fn print_event(rt: &HostRuntime, event: &Event) -> anyhow::Result<()> {
@@ -89,12 +108,6 @@ fn print_event(rt: &HostRuntime, event: &Event) -> anyhow::Result<()> {
         } => offer_line(rt.alloc(), *answer, weights)?,
         Event::Ranked(rank) => rank_line(rt.alloc(), *rank)?,
     };
-    print!(rt; "{line}")?;
-    Ok(())
-}
-
-fn print_published(rt: &HostRuntime, unknowns: usize, rank: usize) -> anyhow::Result<()> {
-    let line = published_line(rt.alloc(), rank, unknowns.saturating_sub(rank))?;
     print!(rt; "{line}")?;
     Ok(())
 }
@@ -114,16 +127,5 @@ fn print_question<F: Field + Drop>(
         _ => String::new(heap),
     };
     print!(rt; "{text}")?;
-    Ok(())
-}
-
-// No collection was opened: its command and every command of its block are refused.
-fn print_refused(rt: &HostRuntime, block: &Block, refusal: Refusal) -> anyhow::Result<()> {
-    let line = refusal_line(rt.alloc(), refusal)?;
-    print!(rt; "{line}")?;
-    let after = usize::from(block.published).saturating_add(block.questions.len());
-    for _command in 0..block.calls.len().saturating_add(after) {
-        print!(rt; "{line}")?;
-    }
     Ok(())
 }
