@@ -94,8 +94,8 @@ pub fn symbol_line(
 fn numbers_line(heap: Global, head: &str, numbers: &[u32]) -> Result<String, AllocError>
     ensures { IfOk result (λ s. string_bytes s ≡ numbers_text head.now numbers.now) }
 {
-    let text = String::from_str(heap, head)?;
-    let mut text = push_more_numbers(heap, text, numbers)?;
+    let mut text = String::from_str(heap, head)?;
+    push_more_numbers(&mut text, numbers)?;
     text.push('\n')?;
     Ok(text)
 }

@@ -1,5 +1,5 @@
 // The report on the symbols of a block, for a person.
-ghost use Rattle.std.specs.Prelude.{◌≡◌, ◌++◌, length, IfOk, string_bytes};
+ghost use Rattle.std.specs.Prelude.{◌≡◌, ◌++◌, IfOk, OnOk, string_bytes};
 ghost use Rattle.answers.specs.ReportText.{advice_text, open_count, report_text, status_text, status_texts};
 
 use crate::plural::{noun_ending, to_be};
@@ -31,7 +31,7 @@ pub fn report(heap: Global, symbols: &[Symbol]) -> Result<String, AllocError>
 
 // A line for each symbol.
 fn push_statuses(text: &mut String, symbols: &[Symbol]) -> Result<(), AllocError>
-    ensures { IfOk result (λ _. string_bytes text.new ≡ string_bytes text.old ++ status_texts 0 symbols.now) }
+    ensures { OnOk result (string_bytes text.new ≡ string_bytes text.old ++ status_texts 0 symbols.now) }
 {
     for (j, symbol) in symbols.iter().enumerate() {
         push_status(text, j, symbol)?;
@@ -40,16 +40,16 @@ fn push_statuses(text: &mut String, symbols: &[Symbol]) -> Result<(), AllocError
 }
 
 fn push_status(text: &mut String, j: usize, symbol: &Symbol) -> Result<(), AllocError>
-    ensures { IfOk result (λ _. string_bytes text.new ≡ string_bytes text.old ++ status_text j symbol.now) }
+    ensures { OnOk result (string_bytes text.new ≡ string_bytes text.old ++ status_text j symbol.now) }
 {
     match symbol {
-        Symbol::Known(code) => write!(text, "  symbol {j}: {code}\n"),
-        Symbol::Open(k) => write!(text, "  symbol {j}: open, kernel vector {k} moves it\n"),
+        Symbol::Known(code) => writeln!(text, "  symbol {j}: {code}"),
+        Symbol::Open(k) => writeln!(text, "  symbol {j}: open, kernel vector {k} moves it"),
     }
 }
 
 fn push_advice(text: &mut String, open: usize) -> Result<(), AllocError>
-    ensures { IfOk result (λ _. string_bytes text.new ≡ string_bytes text.old ++ advice_text «open») }
+    ensures { OnOk result (string_bytes text.new ≡ string_bytes text.old ++ advice_text «open») }
 {
     if open == 0 {
         text.push_str("do not book the antenna: every symbol is known\n")
