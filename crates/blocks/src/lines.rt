@@ -1,9 +1,7 @@
 // The worked lines on collections.
 use crate::showing;
 use algebra::field::Field;
-use recovery::collection::Collection;
 use recovery::published::Published;
-use recovery::width::Width;
 use rings::octets::by_shifts::OctetsByShifts;
 use rings::octets::by_table::OctetsByTable;
 use rings::residues::Residues;
@@ -20,60 +18,42 @@ pub(crate) fn run(rt: &HostRuntime) -> anyhow::Result<()> {
     println!(rt; "octets by shifts, 2 unknowns")?;
     show_octets(rt, OctetsByShifts)?;
     println!(rt; "residues, 3 unknowns, in two orders")?;
-    show_first_order(rt)?;
-    show_second_order(rt)
+    let sum = ([1, 1, 0], 5);
+    let last = ([0, 0, 1], 4);
+    show_order(rt, [sum, last])?;
+    show_order(rt, [last, sum])
 }
 
 // An equation with no coefficient but 0 needs no kept one.
 fn show_new<F: Field + Drop>(rt: &HostRuntime, field: F) -> anyhow::Result<()> {
-    if let Ok(width) = Width::new(1) {
-        let mut collection = Collection::open(field, width);
-        showing::offer(rt, &mut collection, &[0], 0, &mut [0])?;
-        showing::offer(rt, &mut collection, &[0], 1, &mut [0])?;
-    }
-    Ok(())
+    let mut collection = showing::open(field, 1)?;
+    showing::offer(rt, &mut collection, &[0], 0, &mut [0])?;
+    showing::offer(rt, &mut collection, &[0], 1, &mut [0])
 }
 
 fn show_residues(rt: &HostRuntime) -> anyhow::Result<()> {
-    if let Ok(width) = Width::new(2) {
-        let mut collection = Collection::open(Residues, width);
-        showing::offer(rt, &mut collection, &[1, 1], 3, &mut [0, 0])?;
-        showing::offer(rt, &mut collection, &[2, 2], 6, &mut [0, 0])?;
-        showing::offer(rt, &mut collection, &[2, 2], 7, &mut [0, 0])?;
-        showing::offer(rt, &mut collection, &[0, 1], 1, &mut [0, 0])?;
-        showing::solution(rt, &collection.publish(), &mut [0, 0])?;
-    }
-    Ok(())
+    let mut collection = showing::open(Residues, 2)?;
+    showing::offer(rt, &mut collection, &[1, 1], 3, &mut [0, 0])?;
+    showing::offer(rt, &mut collection, &[2, 2], 6, &mut [0, 0])?;
+    showing::offer(rt, &mut collection, &[2, 2], 7, &mut [0, 0])?;
+    showing::offer(rt, &mut collection, &[0, 1], 1, &mut [0, 0])?;
+    showing::solution(rt, &collection.publish(), &mut [0, 0])
 }
 
 fn show_octets<F: Field + Drop>(rt: &HostRuntime, field: F) -> anyhow::Result<()> {
-    if let Ok(width) = Width::new(2) {
-        let mut collection = Collection::open(field, width);
-        showing::offer(rt, &mut collection, &[1, 2], 3, &mut [0, 0])?;
-        showing::offer(rt, &mut collection, &[3, 6], 5, &mut [0, 0])?;
-        showing::offer(rt, &mut collection, &[3, 6], 9, &mut [0, 0])?;
-    }
-    Ok(())
+    let mut collection = showing::open(field, 2)?;
+    showing::offer(rt, &mut collection, &[1, 2], 3, &mut [0, 0])?;
+    showing::offer(rt, &mut collection, &[3, 6], 5, &mut [0, 0])?;
+    showing::offer(rt, &mut collection, &[3, 6], 9, &mut [0, 0])
 }
 
-fn show_first_order(rt: &HostRuntime) -> anyhow::Result<()> {
-    if let Ok(width) = Width::new(3) {
-        let mut collection = Collection::open(Residues, width);
-        showing::offer(rt, &mut collection, &[1, 1, 0], 5, &mut [0; 3])?;
-        showing::offer(rt, &mut collection, &[0, 0, 1], 4, &mut [0; 3])?;
-        show_three(rt, &collection.publish())?;
+// Offers two equations, and asks what is published after them.
+fn show_order(rt: &HostRuntime, equations: [([u32; 3], u32); 2]) -> anyhow::Result<()> {
+    let mut collection = showing::open(Residues, 3)?;
+    for (coefficients, value) in equations {
+        showing::offer(rt, &mut collection, &coefficients, value, &mut [0; 3])?;
     }
-    Ok(())
-}
-
-fn show_second_order(rt: &HostRuntime) -> anyhow::Result<()> {
-    if let Ok(width) = Width::new(3) {
-        let mut collection = Collection::open(Residues, width);
-        showing::offer(rt, &mut collection, &[0, 0, 1], 4, &mut [0; 3])?;
-        showing::offer(rt, &mut collection, &[1, 1, 0], 5, &mut [0; 3])?;
-        show_three(rt, &collection.publish())?;
-    }
-    Ok(())
+    show_three(rt, &collection.publish())
 }
 
 fn show_three(rt: &HostRuntime, published: &Published<Residues>) -> anyhow::Result<()> {

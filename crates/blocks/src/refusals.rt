@@ -6,43 +6,39 @@ use recovery::width::Width;
 use rings::residues::Residues;
 
 pub(crate) fn run(rt: &HostRuntime) -> anyhow::Result<()> {
-    show_width(rt, 0)?;
-    show_width(rt, 1)?;
-    show_width(rt, 64)?;
-    show_width(rt, 65)?;
-    if let Ok(width) = Width::new(2) {
-        println!(rt; "codes and lengths, residues, 2 unknowns")?;
-        let mut collection = Collection::open(Residues, width);
-        show_codes(rt, &mut collection)?;
-        show_lengths(rt, &mut collection)?;
-        let rank = collection.rank();
-        println!(rt; "questions after {rank} kept")?;
-        show_questions(rt, &collection.publish())?;
+    for unknowns in [0, 1, 64, 65] {
+        show_width(rt, unknowns)?;
     }
-    Ok(())
+    println!(rt; "codes and lengths, residues, 2 unknowns")?;
+    let mut collection = showing::open(Residues, 2)?;
+    show_codes(rt, &mut collection)?;
+    show_lengths(rt, &mut collection)?;
+    let rank = collection.rank();
+    println!(rt; "questions after {rank} kept")?;
+    show_questions(rt, &collection.publish())
 }
 
 fn show_width(rt: &HostRuntime, unknowns: usize) -> anyhow::Result<()> {
-    print!(rt; "width {unknowns}: ")?;
     match Width::new(unknowns) {
-        Ok(width) => {
-            let made = width.unknowns();
-            print!(rt; "made {made}")?
-        }
-        Err(refusal) => showing::show_refusal(rt, refusal)?,
+        Ok(width) => println!(rt; "width {unknowns}: made {}", width.unknowns())?,
+        Err(refusal) => println!(rt; "width {unknowns}: {refusal}")?,
     }
-    println!(rt; "")?;
     Ok(())
 }
 
 // The slice for the weights is not cleared in between, so that a refusal shows it unchanged.
 fn show_codes(rt: &HostRuntime, collection: &mut Collection<Residues>) -> anyhow::Result<()> {
     let mut weights = [7, 7];
-    showing::offer(rt, collection, &[65521, 1], 1, &mut weights)?;
-    showing::offer(rt, collection, &[1, 65521], 1, &mut weights)?;
-    showing::offer(rt, collection, &[1, 1], 65521, &mut weights)?;
-    showing::offer(rt, collection, &[65521, 65521], 65521, &mut weights)?;
-    showing::offer(rt, collection, &[65520, 65520], 65520, &mut weights)
+    for (coefficients, value) in [
+        ([65521, 1], 1),
+        ([1, 65521], 1),
+        ([1, 1], 65521),
+        ([65521, 65521], 65521),
+        ([65520, 65520], 65520),
+    ] {
+        showing::offer(rt, collection, &coefficients, value, &mut weights)?;
+    }
+    Ok(())
 }
 
 fn show_lengths(rt: &HostRuntime, collection: &mut Collection<Residues>) -> anyhow::Result<()> {

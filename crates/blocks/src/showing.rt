@@ -1,9 +1,17 @@
 // What calls on a collection answer, printed.
 use algebra::field::Field;
-use logs::answer::{Answer, Symbol};
+use anyhow::anyhow;
 use logs::refusal::Refusal;
 use recovery::collection::Collection;
 use recovery::published::Published;
+use recovery::width::Width;
+use std::fmt;
+
+// A collection with no equation; a number of unknowns that is refused is an error.
+pub(crate) fn open<F: Field + Drop>(field: F, unknowns: usize) -> anyhow::Result<Collection<F>> {
+    let width = Width::new(unknowns).map_err(|refusal| anyhow!("{refusal}"))?;
+    Ok(Collection::open(field, width))
+}
 
 // Offers an equation with the given slice for the weights.
 pub(crate) fn offer<F: Field + Drop>(
@@ -14,10 +22,7 @@ pub(crate) fn offer<F: Field + Drop>(
     weights: &mut [u32],
 ) -> anyhow::Result<()> {
     print!(rt; "  {coefficients:?} = {value}: ")?;
-    match collection.offer(coefficients, value, weights) {
-        Ok(answer) => show_answer(rt, answer)?,
-        Err(refusal) => show_refusal(rt, refusal)?,
-    }
+    show_answer(rt, &collection.offer(coefficients, value, weights))?;
     println!(rt; ", weights {weights:?}")?;
     Ok(())
 }
@@ -28,9 +33,8 @@ pub(crate) fn solution<F: Field + Drop>(
     out: &mut [u32],
 ) -> anyhow::Result<()> {
     print!(rt; "  solution: ")?;
-    show_written(rt, published.solution(out))?;
-    println!(rt; "{out:?}")?;
-    Ok(())
+    let answer = published.solution(out);
+    show_written(rt, answer, out)
 }
 
 pub(crate) fn kernel<F: Field + Drop>(
@@ -40,9 +44,8 @@ pub(crate) fn kernel<F: Field + Drop>(
     out: &mut [u32],
 ) -> anyhow::Result<()> {
     print!(rt; "  kernel vector {k}: ")?;
-    show_written(rt, published.kernel(k, out))?;
-    println!(rt; "{out:?}")?;
-    Ok(())
+    let answer = published.kernel(k, out);
+    show_written(rt, answer, out)
 }
 
 pub(crate) fn unknown<F: Field + Drop>(
@@ -51,38 +54,32 @@ pub(crate) fn unknown<F: Field + Drop>(
     j: usize,
 ) -> anyhow::Result<()> {
     print!(rt; "  unknown {j}: ")?;
-    match published.unknown(j) {
-        Ok(Symbol::Known(code)) => print!(rt; "known {code}")?,
-        Ok(Symbol::Open(k)) => print!(rt; "open {k}")?,
-        Err(refusal) => show_refusal(rt, refusal)?,
-    }
+    show_answer(rt, &published.unknown(j))?;
     println!(rt; "")?;
     Ok(())
 }
 
-fn show_answer(rt: &HostRuntime, answer: Answer) -> anyhow::Result<()> {
+// The answer of a call, or its refusal.
+fn show_answer<A: fmt::Display>(
+    rt: &HostRuntime,
+    answer: &Result<A, Refusal>,
+) -> anyhow::Result<()> {
     match answer {
-        Answer::Kept(k) => print!(rt; "kept {k}")?,
-        Answer::Implied => print!(rt; "implied")?,
-        Answer::Contradiction => print!(rt; "contradiction")?,
+        Ok(answer) => print!(rt; "{answer}")?,
+        Err(refusal) => print!(rt; "{refusal}")?,
     }
     Ok(())
 }
 
-// The refusal of a call that writes to a slice, before the content of the slice.
-fn show_written(rt: &HostRuntime, answer: Result<(), Refusal>) -> anyhow::Result<()> {
+// The content of the slice that a call was lent, after the refusal, if there is one.
+fn show_written(
+    rt: &HostRuntime,
+    answer: Result<(), Refusal>,
+    content: &[u32],
+) -> anyhow::Result<()> {
     if let Err(refusal) = answer {
-        show_refusal(rt, refusal)?;
-        print!(rt; ", slice ")?;
+        print!(rt; "{refusal}, slice ")?;
     }
-    Ok(())
-}
-
-pub(crate) fn show_refusal(rt: &HostRuntime, refusal: Refusal) -> anyhow::Result<()> {
-    let number = refusal.number();
-    print!(rt; "refused {number}")?;
-    if let Some(position) = refusal.position() {
-        print!(rt; " position {position}")?;
-    }
+    println!(rt; "{content:?}")?;
     Ok(())
 }

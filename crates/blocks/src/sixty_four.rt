@@ -1,11 +1,14 @@
 // Blocks of 64 residues. The row of x has the coefficients 1, x, x^2 and so on, so that rows of different x are independent; the
 // codes sent are the powers of 17.
+ghost use Rattle.std.specs.Iterator.{IsFinite};
+
+use crate::showing;
 use algebra::ring::Ring;
 use logs::answer::Symbol;
+use logs::refusal::Refusal;
 use recovery::collection::Collection;
 use recovery::published::Published;
 use recovery::table::UNKNOWNS;
-use recovery::width::Width;
 use rings::residues::Residues;
 
 type Block = [u32; UNKNOWNS];
@@ -18,18 +21,9 @@ pub(crate) fn run(rt: &HostRuntime) -> anyhow::Result<()> {
 // Collects the rows of 1 to `rows`, rising and falling, and compares what is published.
 fn show_block(rt: &HostRuntime, rows: u32) -> anyhow::Result<()> {
     println!(rt; "64 residues from {rows} rows, rising and falling")?;
-    if let Ok(width) = Width::new(UNKNOWNS) {
-        let mut rising = Collection::open(Residues, width);
-        for x in 0..rows {
-            offer_row(&mut rising, x.wrapping_add(1));
-        }
-        let mut falling = Collection::open(Residues, width);
-        for x in 0..rows {
-            offer_row(&mut falling, rows.wrapping_sub(x));
-        }
-        show_published(rt, rising, falling)?;
-    }
-    Ok(())
+    let rising = collect_rows(1..=rows)?;
+    let falling = collect_rows((1..=rows).rev())?;
+    show_published(rt, rising, falling)
 }
 
 fn show_published(
@@ -50,11 +44,26 @@ fn show_published(
     Ok(())
 }
 
+// A collection of the rows of these x, in their order.
+fn collect_rows<I: Iterator<Item = u32>>(xs: I) -> anyhow::Result<Collection<Residues>>
+    requires can { I.can_next xs }
+    requires ends { IsFinite (I.remaining xs) }
+{
+    let mut collection = showing::open(Residues, UNKNOWNS)?;
+    for x in xs {
+        let row = powers(x);
+        let _ = collection.offer(&row, value_of(&row), &mut [0; UNKNOWNS]);
+    }
+    Ok(collection)
+}
+
 // The powers of x, from 1 on.
 fn powers(x: u32) -> Block {
     let mut block = [1; UNKNOWNS];
-    for i in 1..UNKNOWNS {
-        block[i] = Residues.product(block[i - 1], x);
+    let mut power = 1;
+    for cell in block.iter_mut() {
+        *cell = power;
+        power = Residues.product(power, x);
     }
     block
 }
@@ -65,57 +74,43 @@ fn sent() -> Block {
 
 // What a row gives of the codes sent.
 fn value_of(row: &Block) -> u32 {
-    let codes = sent();
-    let mut value = 0;
-    for i in 0..UNKNOWNS {
-        value = Residues.sum(value, Residues.product(row[i], codes[i]));
-    }
-    value
-}
-
-fn offer_row(collection: &mut Collection<Residues>, x: u32) {
-    let row = powers(x);
-    let value = value_of(&row);
-    let _ = collection.offer(&row, value, &mut [0; UNKNOWNS]);
+    row.iter().zip(sent().iter()).fold(0, |value, (a, b)| {
+        Residues.sum(value, Residues.product(*a, *b))
+    })
 }
 
 // How many unknowns are known to be the codes sent.
 fn count_known(published: &Published<Residues>) -> usize {
-    let codes = sent();
-    let mut known = 0usize;
-    for i in 0..UNKNOWNS {
-        if published.unknown(i) == Ok(Symbol::Known(codes[i])) {
-            known = known.wrapping_add(1);
-        }
-    }
-    known
+    sent()
+        .iter()
+        .enumerate()
+        .filter(|(i, code)| published.unknown(*i) == Ok(Symbol::Known(**code)))
+        .count()
 }
 
 // How many questions the two answer alike: those for the solution, and for each unknown and kernel vector that there can be.
 fn count_alike(first: &Published<Residues>, second: &Published<Residues>) -> usize {
-    let mut alike = 0usize;
-    if solve_alike(first, second) {
-        alike = 1;
-    }
-    for i in 0..UNKNOWNS {
-        if first.unknown(i) == second.unknown(i) {
-            alike = alike.wrapping_add(1);
-        }
-        if span_alike(first, second, i) {
-            alike = alike.wrapping_add(1);
-        }
-    }
-    alike
+    let solutions = usize::from(write_alike(first, second, |published, out| {
+        published.solution(out)
+    }));
+    let unknowns = (0..UNKNOWNS)
+        .filter(|j| first.unknown(*j) == second.unknown(*j))
+        .count();
+    let kernels = (0..UNKNOWNS)
+        .filter(|k| write_alike(first, second, |published, out| published.kernel(*k, out)))
+        .count();
+    solutions.saturating_add(unknowns).saturating_add(kernels)
 }
 
-fn solve_alike(first: &Published<Residues>, second: &Published<Residues>) -> bool {
+// Whether the two answer a question alike, and write the same vector.
+fn write_alike<Q: Fn(&Published<Residues>, &mut [u32]) -> Result<(), Refusal>>(
+    first: &Published<Residues>,
+    second: &Published<Residues>,
+    ask: Q,
+) -> bool
+    requires { Q.IsAlwaysCallable ask }
+{
     let mut one: Block = [0; UNKNOWNS];
     let mut other: Block = [0; UNKNOWNS];
-    first.solution(&mut one) == second.solution(&mut other) && one == other
-}
-
-fn span_alike(first: &Published<Residues>, second: &Published<Residues>, k: usize) -> bool {
-    let mut one: Block = [0; UNKNOWNS];
-    let mut other: Block = [0; UNKNOWNS];
-    first.kernel(k, &mut one) == second.kernel(k, &mut other) && one == other
+    ask(first, &mut one) == ask(second, &mut other) && one == other
 }
