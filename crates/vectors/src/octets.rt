@@ -12,21 +12,40 @@ struct Tables {
     logarithms: Vec<u32>,
 }
 
+impl Tables {
+    fn read(rt: &HostRuntime) -> anyhow::Result<Tables> {
+        Ok(Tables {
+            powers: read_table(rt, "oct_exp.txt")?,
+            logarithms: read_table(rt, "oct_log.txt")?,
+        })
+    }
+
+    // The product as RFC 6330 has it, if the tables have the entries.
+    fn product(&self, a: u32, b: u32) -> Option<u32> {
+        if a == 0 || b == 0 {
+            return Some(0);
+        }
+        let i = self.logarithms.get(a as usize - 1)?;
+        let j = self.logarithms.get(b as usize - 1)?;
+        let k = (*i as usize).checked_add(*j as usize)?;
+        self.powers.get(k).copied()
+    }
+}
+
 pub(crate) fn run(rt: &HostRuntime) -> anyhow::Result<()> {
-    let tables = Tables {
-        powers: read_table(rt, "oct_exp.txt")?,
-        logarithms: read_table(rt, "oct_log.txt")?,
-    };
+    let tables = Tables::read(rt)?;
     let powers = tables.powers.len();
     let logarithms = tables.logarithms.len();
     println!(rt; "RFC 6330: {powers} powers, {logarithms} logarithms")?;
-    let by_table = count_products(&OctetsByTable, &tables);
+    let by_table = count_pairs(|a, b| tables.product(a, b) == Some(OctetsByTable.product(a, b)));
     println!(rt; "octets by table: {by_table} of 65536 products are RFC 6330's")?;
-    let by_shifts = count_products(&OctetsByShifts, &tables);
+    let by_shifts = count_pairs(|a, b| tables.product(a, b) == Some(OctetsByShifts.product(a, b)));
     println!(rt; "octets by shifts: {by_shifts} of 65536 products are RFC 6330's")?;
-    let pairs = count_pairs();
+    let pairs = count_pairs(|a, b| answer_alike(&OctetsByTable, &OctetsByShifts, a, b));
     println!(rt; "octets by table and by shifts: alike for {pairs} of 65536 pairs")?;
-    let inverses = count_inverses();
+    let inverses = (0..256u32)
+        .filter(|code| invert_alike(&OctetsByTable, &OctetsByShifts, *code))
+        .count();
     println!(rt; "octets by table and by shifts: {inverses} of 256 inverses alike")?;
     Ok(())
 }
@@ -35,58 +54,21 @@ pub(crate) fn run(rt: &HostRuntime) -> anyhow::Result<()> {
 fn read_table(rt: &HostRuntime, path: &str) -> anyhow::Result<Vec<u32>> {
     let text = fs::read_to_string(rt, path)?;
     let mut table = Vec::new(rt.alloc());
-    for line in text.lines() {
-        if !line.starts_with('#') {
-            read_numbers(line, &mut table)?;
-        }
+    let words = text
+        .lines()
+        .filter(|line| !line.starts_with('#'))
+        .flat_map(|line| line.split_whitespace());
+    for word in words {
+        table.push(word.parse::<u32>()?)?;
     }
     Ok(table)
 }
 
-fn read_numbers(line: &str, table: &mut Vec<u32>) -> anyhow::Result<()> {
-    for word in line.split_whitespace() {
-        table.push(word.parse::<u32>()?)?;
-    }
-    Ok(())
-}
-
-// The product as RFC 6330 has it, if the tables have the entries.
-fn tabled(tables: &Tables, a: u32, b: u32) -> Option<u32> {
-    if a == 0 || b == 0 {
-        return Some(0);
-    }
-    let i = tables.logarithms.get(a as usize - 1)?;
-    let j = tables.logarithms.get(b as usize - 1)?;
-    let k = (*i as usize).checked_add(*j as usize)?;
-    tables.powers.get(k).copied()
-}
-
-fn count_products<R: Ring>(r: &R, tables: &Tables) -> u32 {
-    let mut same = 0u32;
-    for pair in 0..65536u32 {
-        if tabled(tables, pair / 256, pair % 256) == Some(r.product(pair / 256, pair % 256)) {
-            same = same.wrapping_add(1);
-        }
-    }
-    same
-}
-
-fn count_pairs() -> u32 {
-    let mut same = 0u32;
-    for pair in 0..65536u32 {
-        if answer_alike(&OctetsByTable, &OctetsByShifts, pair / 256, pair % 256) {
-            same = same.wrapping_add(1);
-        }
-    }
-    same
-}
-
-fn count_inverses() -> u32 {
-    let mut same = 0u32;
-    for code in 0..256u32 {
-        if invert_alike(&OctetsByTable, &OctetsByShifts, code) {
-            same = same.wrapping_add(1);
-        }
-    }
-    same
+// For how many pairs of octets the test holds.
+fn count_pairs<F: Fn(u32, u32) -> bool>(test: F) -> usize
+    requires { F.IsAlwaysCallable test }
+{
+    (0..65536u32)
+        .filter(|pair| test(*pair / 256, *pair % 256))
+        .count()
 }
