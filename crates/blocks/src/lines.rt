@@ -2,21 +2,22 @@
 use crate::showing;
 use algebra::field::Field;
 use recovery::published::Published;
-use rings::octets::by_shifts::OctetsByShifts;
-use rings::octets::by_table::OctetsByTable;
+use rings::octets::Octets;
+use rings::octets::by_shifts::ByShifts;
+use rings::octets::by_table::ByTable;
 use rings::residues::Residues;
 
 pub(crate) fn run(rt: &HostRuntime) -> anyhow::Result<()> {
     println!(rt; "new collections, 1 unknown, residues and both octets")?;
     show_new(rt, Residues)?;
-    show_new(rt, OctetsByTable)?;
-    show_new(rt, OctetsByShifts)?;
+    show_new(rt, Octets(ByTable))?;
+    show_new(rt, Octets(ByShifts))?;
     println!(rt; "residues, 2 unknowns")?;
     show_residues(rt)?;
     println!(rt; "octets by table, 2 unknowns")?;
-    show_octets(rt, OctetsByTable)?;
+    show_octets(rt, Octets(ByTable))?;
     println!(rt; "octets by shifts, 2 unknowns")?;
-    show_octets(rt, OctetsByShifts)?;
+    show_octets(rt, Octets(ByShifts))?;
     println!(rt; "residues, 3 unknowns, in two orders")?;
     let sum = ([1, 1, 0], 5);
     let last = ([0, 0, 1], 4);

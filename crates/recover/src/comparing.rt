@@ -8,8 +8,9 @@ use answers::passes::{agree_line, differ_line};
 use commands::command::{Command, FieldName};
 use commands::reading::{Parsed, parse};
 use pass::comparison::{Difference, compare};
-use rings::octets::by_shifts::OctetsByShifts;
-use rings::octets::by_table::OctetsByTable;
+use rings::octets::Octets;
+use rings::octets::by_shifts::ByShifts;
+use rings::octets::by_table::ByTable;
 use rings::residues::Residues;
 use std::alloc::{AllocError, Global};
 use std::cmp::Ordering;
@@ -37,8 +38,8 @@ pub(crate) fn compare_passes(
     };
     match a.field {
         FieldName::Residues => compare_with(rt, Residues, &a.commands, &b),
-        FieldName::Octets => compare_with(rt, OctetsByTable, &a.commands, &b),
-        FieldName::OctetsByShifts => compare_with(rt, OctetsByShifts, &a.commands, &b),
+        FieldName::Octets => compare_with(rt, Octets(ByTable), &a.commands, &b),
+        FieldName::OctetsByShifts => compare_with(rt, Octets(ByShifts), &a.commands, &b),
     }
 }
 
@@ -61,8 +62,8 @@ fn compare_with<F: Field + Copy + Drop>(
 ) -> anyhow::Result<ExitCode> {
     match b.field {
         FieldName::Residues => compare_blocks(rt, f, Residues, a, &b.commands),
-        FieldName::Octets => compare_blocks(rt, f, OctetsByTable, a, &b.commands),
-        FieldName::OctetsByShifts => compare_blocks(rt, f, OctetsByShifts, a, &b.commands),
+        FieldName::Octets => compare_blocks(rt, f, Octets(ByTable), a, &b.commands),
+        FieldName::OctetsByShifts => compare_blocks(rt, f, Octets(ByShifts), a, &b.commands),
     }
 }
 

@@ -10,8 +10,9 @@ use logs::refusal::Refusal;
 use pass::asking::Question;
 use pass::recording::{Event, Recording};
 use recovery::published::Published;
-use rings::octets::by_shifts::OctetsByShifts;
-use rings::octets::by_table::OctetsByTable;
+use rings::octets::Octets;
+use rings::octets::by_shifts::ByShifts;
+use rings::octets::by_table::ByTable;
 use rings::residues::Residues;
 use std::process::ExitCode;
 
@@ -20,8 +21,8 @@ pub(crate) fn solve_pass(rt: &HostRuntime, text: &[u8]) -> anyhow::Result<ExitCo
     let parsed = parse(rt.alloc(), text)?;
     match parsed.field {
         FieldName::Residues => solve_blocks(rt, Residues, &parsed.commands)?,
-        FieldName::Octets => solve_blocks(rt, OctetsByTable, &parsed.commands)?,
-        FieldName::OctetsByShifts => solve_blocks(rt, OctetsByShifts, &parsed.commands)?,
+        FieldName::Octets => solve_blocks(rt, Octets(ByTable), &parsed.commands)?,
+        FieldName::OctetsByShifts => solve_blocks(rt, Octets(ByShifts), &parsed.commands)?,
     }
     if let Some(fault) = parsed.fault {
         eprintln!(rt; "recover: {fault}")?;

@@ -6,8 +6,9 @@ ghost use Rattle.requests.specs.Asked.{asked_by, matrix_of};
 use crate::multiply::multiply;
 use crate::reply::Reply;
 use requests::request::{Request, RingName, Table};
-use rings::octets::by_shifts::OctetsByShifts;
-use rings::octets::by_table::OctetsByTable;
+use rings::octets::Octets;
+use rings::octets::by_shifts::ByShifts;
+use rings::octets::by_table::ByTable;
 use rings::residues::Residues;
 use rings::words::Words;
 use std::alloc::{AllocError, Global};
@@ -32,7 +33,7 @@ fn multiply_over(
     match ring {
         RingName::Words => multiply(heap, &Words, left, right),
         RingName::Residues => multiply(heap, &Residues, left, right),
-        RingName::Octets => multiply(heap, &OctetsByTable, left, right),
-        RingName::OctetsByShifts => multiply(heap, &OctetsByShifts, left, right),
+        RingName::Octets => multiply(heap, &Octets(ByTable), left, right),
+        RingName::OctetsByShifts => multiply(heap, &Octets(ByShifts), left, right),
     }
 }

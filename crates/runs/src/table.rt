@@ -5,8 +5,9 @@ ghost use Rattle.runs.specs.Table.{AllHold, runs};
 use crate::answering::run_matches;
 use crate::run::{Asked, Step};
 use logs::answer::{Answer, Symbol};
-use rings::octets::by_shifts::OctetsByShifts;
-use rings::octets::by_table::OctetsByTable;
+use rings::octets::Octets;
+use rings::octets::by_shifts::ByShifts;
+use rings::octets::by_table::ByTable;
 use rings::residues::Residues;
 
 // An equation is kept; a multiple of it comes with its value, then with another; over the residues one more is kept.
@@ -124,8 +125,8 @@ pub(crate) fn residue_runs() -> bool
 pub(crate) fn octet_runs() -> bool
     ensures { AllHold runs → result ≡ true }
 {
-    run_matches(OctetsByTable, &OCTET_PAIR, &[])
-        && run_matches(OctetsByTable, &NO_COEFFICIENT, &[])
-        && run_matches(OctetsByShifts, &OCTET_PAIR, &[])
-        && run_matches(OctetsByShifts, &NO_COEFFICIENT, &[])
+    run_matches(Octets(ByTable), &OCTET_PAIR, &[])
+        && run_matches(Octets(ByTable), &NO_COEFFICIENT, &[])
+        && run_matches(Octets(ByShifts), &OCTET_PAIR, &[])
+        && run_matches(Octets(ByShifts), &NO_COEFFICIENT, &[])
 }

@@ -1,8 +1,9 @@
 // Both octet rings against the tables of RFC 6330, section 5.7, which the files of data/ have, and against each other.
 use algebra::agreement::{answer_alike, invert_alike};
 use algebra::ring::Ring;
-use rings::octets::by_shifts::OctetsByShifts;
-use rings::octets::by_table::OctetsByTable;
+use rings::octets::Octets;
+use rings::octets::by_shifts::ByShifts;
+use rings::octets::by_table::ByTable;
 use std::fs;
 
 // OCT_EXP and OCT_LOG.
@@ -37,14 +38,14 @@ pub(crate) fn run(rt: &HostRuntime) -> anyhow::Result<()> {
     let powers = tables.powers.len();
     let logarithms = tables.logarithms.len();
     println!(rt; "RFC 6330: {powers} powers, {logarithms} logarithms")?;
-    let by_table = count_pairs(|a, b| tables.product(a, b) == Some(OctetsByTable.product(a, b)));
+    let by_table = count_pairs(|a, b| tables.product(a, b) == Some(Octets(ByTable).product(a, b)));
     println!(rt; "octets by table: {by_table} of 65536 products are RFC 6330's")?;
-    let by_shifts = count_pairs(|a, b| tables.product(a, b) == Some(OctetsByShifts.product(a, b)));
+    let by_shifts = count_pairs(|a, b| tables.product(a, b) == Some(Octets(ByShifts).product(a, b)));
     println!(rt; "octets by shifts: {by_shifts} of 65536 products are RFC 6330's")?;
-    let pairs = count_pairs(|a, b| answer_alike(&OctetsByTable, &OctetsByShifts, a, b));
+    let pairs = count_pairs(|a, b| answer_alike(&Octets(ByTable), &Octets(ByShifts), a, b));
     println!(rt; "octets by table and by shifts: alike for {pairs} of 65536 pairs")?;
     let inverses = (0..256u32)
-        .filter(|code| invert_alike(&OctetsByTable, &OctetsByShifts, *code))
+        .filter(|code| invert_alike(&Octets(ByTable), &Octets(ByShifts), *code))
         .count();
     println!(rt; "octets by table and by shifts: {inverses} of 256 inverses alike")?;
     Ok(())
