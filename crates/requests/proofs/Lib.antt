@@ -3,3 +3,4 @@ pub mod Adding
 pub mod Following
 pub mod Shrinking
 pub mod Recalling
+pub mod Naming

@@ -3,8 +3,6 @@ ghost use Rattle.std.specs.Prelude.{◌≡◌};
 ghost use Rattle.std.specs.Option.{ok_or};
 ghost use Rattle.requests.specs.Format.{ring_named};
 
-use text::words::is_same;
-
 // The ring that a product is computed in.
 #[derive(Clone, Copy, Debug, PartialEq, Eq)]
 pub enum RingName {
@@ -23,17 +21,14 @@ impl TryFrom<&[u8]> for RingName {
 
     ghost try_from_gives = { λ name r. r ≡ ok_or (ring_named name.now) (record {}) };
 
+    #[tactic(auto, using(crate::proofs::Naming::rings_read))]
     fn try_from(name: &[u8]) -> Result<RingName, UnknownRing> {
-        if is_same(name, b"words") {
-            Ok(RingName::Words)
-        } else if is_same(name, b"residues") {
-            Ok(RingName::Residues)
-        } else if is_same(name, b"octets") {
-            Ok(RingName::Octets)
-        } else if is_same(name, b"octets-by-shifts") {
-            Ok(RingName::OctetsByShifts)
-        } else {
-            Err(UnknownRing)
+        match name {
+            b"words" => Ok(RingName::Words),
+            b"residues" => Ok(RingName::Residues),
+            b"octets" => Ok(RingName::Octets),
+            b"octets-by-shifts" => Ok(RingName::OctetsByShifts),
+            _ => Err(UnknownRing),
         }
     }
 }
