@@ -1,6 +1,6 @@
 -- What a collection answers, compared with the steps and the questions of a run.
-use Rattle.std.proofs.Common.{◌≡◌, ℕ, ◌+◌, ◌<◌, ◌≤◌, Bool, true, false, ◌&&◌, List, [], ◌∷◌, length, get_or, drop, replicate, is_ok, Ok, Err, Decides, Result, sym, refl, ap, ◌∙◌, subst, ap₂}
-use Rattle.std.proofs.lemmas.List.{drop_all, at_drop_more}
+use Rattle.std.proofs.Common.{◌≡◌, ℕ, ◌+◌, ◌<◌, Bool, true, false, ◌&&◌, List, [], ◌∷◌, length, get_or, drop, replicate, is_ok, Ok, Err, Decides, Result, sym, refl, ap, ◌∙◌, subst, ap₂}
+use Rattle.std.proofs.lemmas.List.{at_drop_more}
 use Rattle.std.proofs.lemmas.Bool.{false≢true}
 use Rattle.std.proofs.lemmas.Bool.Decides.{Decides-like, Decides-at, Decides-and}
 use Rattle.algebra.specs.Meaning.{Meaning}
@@ -11,7 +11,6 @@ use Rattle.logs.specs.declared.refusal.Refusal.{Refusal}
 use Rattle.logs.specs.Offers.{offer, Log, offered}
 use Rattle.logs.specs.Logs.{Made}
 use Rattle.logs.specs.Questions.{Reply, wrote, said, Answers}
-use Rattle.logs.proofs.Checking.{err_ok}
 use Rattle.logs.proofs.Histories.{made_log}
 use Rattle.logs.proofs.Settling.{log_settled}
 use Rattle.logs.proofs.Replying.{one_reply}
@@ -34,7 +33,7 @@ wrote_decides r out v ok same e d =
   where
     answered : (r : Result (Unit {0}) Refusal) → Decides (is_ok r) (r ≡ Ok tt)
     answered (Ok u) = ((λ e. refl), (λ e. refl))
-    answered (Err x) = ((λ e. absurd (false≢true e)), (λ e. absurd (err_ok e)))
+    answered (Err x) = ((λ e. cc), (λ e. cc))
 
 -- one offer, and one question
 module _ (m : Meaning) (laws : FieldLaws m) (n : ℕ) where
@@ -71,26 +70,18 @@ module _ (m : Meaning) (n : ℕ) where
   Offering steps before rest now =
       (log : Log) → Holds m n log before → (mid : Log) × Holds m n mid now × (log_after n mid rest ≡ log_after n log steps)
 
-  module _ (steps : List (Step n)) (before : Table) where
-    pub offering_none : Offering steps before steps before
-    offering_none log h = (log, h, refl)
+  module _ (steps : List (Step n)) (before : Table) (s : Step n) (i : ℕ) (lt : i < length steps) (is : s ≡ get_or steps i s) (now after : Table)
+      (l : Offering steps before (drop i steps) now) where
+    next_step : Offering steps before (s ∷ drop (i + 1) steps) now
+    next_step = dropped_next (λ rest. Offering steps before rest now) steps s i lt is l
 
-    pub offering_all : (now : Table) (i : ℕ) → length steps ≤ i → Offering steps before (drop i steps) now → OffersMatch m n steps before true now
-    offering_all now i done l log h =
-        let u = subst (λ rest. Offering steps before rest now) (drop_all i steps done) l log h in
-        subst (λ x. Holds m n x now) u.2 u.1
+    pub offering_more : OffersMatch m n (s ∷ []) now true after → Offering steps before (drop (i + 1) steps) after
+    offering_more t log h = let u = next_step log h in (event n s ∷ u.0, t u.0 u.1, u.2)
 
-    module _ (s : Step n) (i : ℕ) (lt : i < length steps) (is : s ≡ get_or steps i s) (now after : Table) (l : Offering steps before (drop i steps) now) where
-      next_step : Offering steps before (s ∷ drop (i + 1) steps) now
-      next_step = dropped_next (λ rest. Offering steps before rest now) steps s i lt is l
-
-      pub offering_more : OffersMatch m n (s ∷ []) now true after → Offering steps before (drop (i + 1) steps) after
-      offering_more t log h = let u = next_step log h in (event n s ∷ u.0, t u.0 u.1, u.2)
-
-      pub offering_fails : OffersMatch m n (s ∷ []) now false after → OffersMatch m n steps before false after
-      offering_fails t log h md =
-          let u = next_step log h in
-          t u.0 u.1 (made_before (drop (i + 1) steps) (event n s ∷ u.0) (subst (Made m n) (sym u.2) md))
+    pub offering_fails : OffersMatch m n (s ∷ []) now false after → OffersMatch m n steps before false after
+    offering_fails t log h md =
+        let u = next_step log h in
+        t u.0 u.1 (made_before (drop (i + 1) steps) (event n s ∷ u.0) (subst (Made m n) (sym u.2) md))
 
 -- one question after another
 module _ (m : Meaning) (n : ℕ) (asked : List (Asked n)) (table : Table) where
@@ -98,12 +89,6 @@ module _ (m : Meaning) (n : ℕ) (asked : List (Asked n)) (table : Table) where
   abbrev pub Asking : List (Asked n) → Type 0
   Asking rest = (log : Log) → Holds m n log table
       → (Replied m n log rest → Replied m n log asked) × (Replied m n log asked → Replied m n log rest)
-
-  pub asking_none : Asking asked
-  asking_none log h = ((λ k. k), (λ k. k))
-
-  pub asking_all : (i : ℕ) → length asked ≤ i → Asking (drop i asked) → RepliesMatch m n asked table true
-  asking_all i done l log h = ((λ e. (subst Asking (drop_all i asked done) l log h).0 tt), (λ k. refl))
 
   module _ (a : Asked n) (i : ℕ) (lt : i < length asked) (is : a ≡ get_or asked i a) (l : Asking (drop i asked)) where
     next_question : Asking (a ∷ drop (i + 1) asked)
@@ -113,7 +98,7 @@ module _ (m : Meaning) (n : ℕ) (asked : List (Asked n)) (table : Table) where
     asking_more t log h = let u = next_question log h in ((λ k. u.0 (((t log h).0 refl).0, k)), (λ k. (u.1 k).1))
 
     pub asking_fails : RepliesMatch m n (a ∷ []) table false → RepliesMatch m n asked table false
-    asking_fails t log h = ((λ e. absurd (false≢true e)), (λ k. (t log h).1 (((next_question log h).1 k).0, tt)))
+    asking_fails t log h = ((λ e. cc), (λ k. (t log h).1 (((next_question log h).1 k).0, tt)))
 
 -- the whole run
 pub run_matched : (m : Meaning) (n : ℕ) (steps : List (Step n)) (asked : List (Asked n)) (first last : Table) (r : Bool)

@@ -1,7 +1,7 @@
 -- Tests that are computed at numbers, and what they show of vectors, weights and reduced forms.
-use Rattle.std.proofs.Common.{◌≡◌, ℕ, suc, ◌-◌, ◌<◌, ◌≤◌, Bool, true, ◌&&◌, ◌||◌, eqb, ltb, ◌≢◌, ◌⊎◌, List, [], length, get_or, refl, inl, inr, arith}
-use Rattle.std.proofs.lemmas.Bool.{and_parts, or_cases, eqb-true, ltb-true}
-use Rattle.std.proofs.lemmas.Bool.Decides.{Decides-below_and}
+use Rattle.std.proofs.Common.{◌≡◌, ℕ, suc, ◌-◌, ◌<◌, ◌≤◌, Bool, true, ◌&&◌, ◌||◌, eqb, ltb, ◌≢◌, List, [], length, get_or, refl, arith}
+use Rattle.std.proofs.lemmas.Bool.{and_parts, eqb-true, ltb-true}
+use Rattle.std.proofs.lemmas.Bool.Decides.{Decides-below_and, nat_tests}
 use Rattle.algebra.specs.Meaning.{Meaning}
 use Rattle.algebra.specs.Operations.{operations, dot}
 use Rattle.algebra.specs.Vectors.{Equation, row, entries, Vector, Sound, Possible}
@@ -15,19 +15,11 @@ passes p n = (Decides-below_and p (λ k. p k ≡ true) (below p) (λ k. ((λ e. 
 
 -- zeros, but at a number
 pub zero_or : (i k x : ℕ) → (eqb i k || eqb x 0) ≡ true → i ≢ k → x ≡ 0
-zero_or i k x t ne = go (or_cases (eqb i k) (eqb x 0) t)
-  where
-    go : (eqb i k ≡ true) ⊎ (eqb x 0 ≡ true) → x ≡ 0
-    go (inl e) = absurd (ne (eqb-true i k e))
-    go (inr e) = eqb-true x 0 e
+zero_or i k x t ne = grind (arith, nat_tests)
 
 -- zeros from a number on
 zero_past : (i k x : ℕ) → (ltb i k || eqb x 0) ≡ true → k ≤ i → x ≡ 0
-zero_past i k x t l = go (or_cases (ltb i k) (eqb x 0) t)
-  where
-    go : (ltb i k ≡ true) ⊎ (eqb x 0 ≡ true) → x ≡ 0
-    go (inl e) = absurd (let b = ltb-true i k e in omega arith)
-    go (inr e) = eqb-true x 0 e
+zero_past i k x t l = grind (arith, nat_tests)
 
 module _ (m : Meaning) (n : ℕ) where
   abbrev pub is_vector : List ℕ → Bool

@@ -1,10 +1,7 @@
-use Rattle.std.proofs.Common.{true, false, [], ◌∷◌, refl, ◌∙◌, subst}
+use Rattle.std.proofs.Common.{true, false, [], ◌∷◌, ◌∙◌, subst}
 use Rattle.runs.specs.Matching.{OffersMatch}
-use Rattle.runs.proofs.Matching.{offering_none, offering_all, offering_more, offering_fails}
+use Rattle.runs.proofs.Matching.{offering_more, offering_fails}
 use Rattle.runs.proofs.answering.offers_match.Goals as goal
-
-pub loop-step-init : goal.loop-step-init
-loop-step-init g c = (refl, offering_none _ g.row.N c.args.steps.now c.args.collection.now.table)
 
 pub loop-step-preserved : goal.loop-step-preserved
 loop-step-preserved g c =
@@ -33,11 +30,3 @@ returns-then-not-offer_matches g c =
           (subst (λ f. OffersMatch (g.F.Ring.meaning f) g.row.N (s ∷ []) before.table false after.table) c.loop-step.invariant.0
           c.if-not-offer_matches.ensures.matched);
     }
-
-pub returns : goal.returns
-returns g c = record {
-  field = c.loop-step.invariant.0;
-  matched =
-      offering_all _ g.row.N c.args.steps.now c.args.collection.now.table c.loop-step.collection.table c.loop-step.step-index
-      c.loop-step-test.false c.loop-step.invariant.1;
-}

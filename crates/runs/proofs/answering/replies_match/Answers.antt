@@ -1,8 +1,5 @@
-use Rattle.runs.proofs.Matching.{asking_none, asking_all, asking_more, asking_fails}
+use Rattle.runs.proofs.Matching.{asking_more, asking_fails}
 use Rattle.runs.proofs.answering.replies_match.Goals as goal
-
-pub loop-one-init : goal.loop-one-init
-loop-one-init g c = asking_none _ g.row.N c.args.asked.now c.args.published.now.table
 
 pub loop-one-preserved : goal.loop-one-preserved
 loop-one-preserved g c =
@@ -13,7 +10,3 @@ pub returns-then-not-reply_matches : goal.returns-then-not-reply_matches
 returns-then-not-reply_matches g c =
     asking_fails _ g.row.N c.args.asked.now c.args.published.now.table c.one-item.result c.loop-one.one-index c.loop-one-test.true
     c.one-item.is c.loop-one.invariant c.if-not-reply_matches.ensures
-
-pub returns : goal.returns
-returns g c =
-    asking_all _ g.row.N c.args.asked.now c.args.published.now.table c.loop-one.one-index c.loop-one-test.false c.loop-one.invariant
