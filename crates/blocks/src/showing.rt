@@ -1,6 +1,5 @@
 // What calls on a collection answer, printed.
 use algebra::field::Field;
-use anyhow::anyhow;
 use logs::refusal::Refusal;
 use recovery::collection::Collection;
 use recovery::published::Published;
@@ -9,8 +8,7 @@ use std::fmt;
 
 // A collection with no equation; a number of unknowns that is refused is an error.
 pub(crate) fn open<F: Field + Drop>(field: F, unknowns: usize) -> anyhow::Result<Collection<F>> {
-    let width = Width::new(unknowns).map_err(|refusal| anyhow!("{refusal}"))?;
-    Ok(Collection::open(field, width))
+    Ok(Collection::open(field, Width::new(unknowns)?))
 }
 
 // Offers an equation with the given slice for the weights.

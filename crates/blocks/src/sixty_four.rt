@@ -4,7 +4,6 @@ ghost use Rattle.std.specs.Iterator.{IsFinite};
 
 use crate::showing;
 use algebra::ring::Ring;
-use anyhow::anyhow;
 use logs::answer::Symbol;
 use logs::refusal::Refusal;
 use recovery::collection::Collection;
@@ -53,9 +52,7 @@ fn collect_rows<I: Iterator<Item = u32>>(xs: I) -> anyhow::Result<Collection<Res
     let mut collection = showing::open(Residues, UNKNOWNS)?;
     for x in xs {
         let row = powers(x);
-        collection
-            .offer(&row, value_of(&row), &mut [0; UNKNOWNS])
-            .map_err(|refusal| anyhow!("{refusal}"))?;
+        collection.offer(&row, value_of(&row), &mut [0; UNKNOWNS])?;
     }
     Ok(collection)
 }

@@ -21,7 +21,7 @@ fn main(rt: HostRuntime) -> ExitCode {
     }
 }
 
-// Prints the replies to the requests before the first fault, which is the error.
+// Prints the replies to the requests before the first fault, which is the error. (The longest message of a fault fits in one.)
 fn run(rt: &HostRuntime) -> anyhow::Result<()> {
     let text = read_text(rt)?;
     let parsed = parse(rt.alloc(), &text)?;
