@@ -12,7 +12,7 @@ use crate::command::{Command, FieldName};
 use crate::fault::Expected;
 use crate::keyword::Keyword;
 use crate::state::{State, expected_in, is_allowed};
-use std::alloc::{AllocError, Global};
+use std::alloc::Global;
 use text::number::parse_number;
 use text::stop::Stop;
 use text::words::{is_same, split_word};
@@ -71,7 +71,7 @@ fn parse_offer(heap: Global, text: &[u8]) -> Result<Command, Stop<Expected>>
             });
         }
         let coefficient = parse_number(word).ok_or(Expected::Equation)?;
-        coefficients.push(coefficient).map_err(AllocError::from)?;
+        coefficients.push(coefficient)?;
         rest = after;
     }
     Err(Stop::Malformed(Expected::Equation))

@@ -6,7 +6,6 @@ ghost use Rattle.requests.specs.Giving.{Adds};
 
 use crate::fault::{Expected, Fault, malformed};
 use crate::request::RingName;
-use std::alloc::AllocError;
 use text::lines::Line;
 use text::number::parse_number;
 use text::stop::Stop;
@@ -53,7 +52,7 @@ pub(crate) fn parse_row(
     for _ in 0..columns {
         let (word, after) = split_word(rest).ok_or(unfit)?;
         let number = parse_number(word).ok_or(unfit)?;
-        cells.push(number).map_err(AllocError::from)?;
+        cells.push(number)?;
         rest = after;
     }
     match split_word(rest) {

@@ -4,5 +4,4 @@ pub mod Valued
 pub mod Spelling
 pub mod Numerals
 pub mod Counting
-pub mod Telling
 pub mod Spacing

@@ -2,7 +2,7 @@
 use Rattle.std.proofs.Common.{◌≡◌, ℕ, List, Result, OnOk, [], ◌∷◌, ◌++◌, map, decimal, sym, ap, ◌∙◌, append_assoc, append-nil}
 use Rattle.std.specs.List.{flat_map}
 use Rattle.std.proofs.lemmas.Result.{on_ok_weaker}
-use Rattle.text.specs.Canonical.{line_of, spaced}
+use Rattle.text.specs.Canonical.{spaced}
 use Rattle.text.specs.Writing.{after_blank}
 
 -- the words of a line: the first, and each other after a blank
@@ -22,7 +22,3 @@ pub numbers_pushed : {T E : Type 0} (r : Result T E) (before text after row : Li
     → OnOk r (after ≡ text ++ flat_map after_blank ns) → OnOk r (after ≡ before ++ spaced (map decimal row))
 numbers_pushed r before text after row n ns e f h =
     on_ok_weaker r (λ g. g ∙ (ap (λ z. z ++ flat_map after_blank ns) e ∙ numbers_spaced before row n ns f)) h
-
--- a line feed ends the line
-pub line_ended : (before text : List ℕ) (ws : List (List ℕ)) → text ≡ before ++ spaced ws → text ++ (10 ∷ []) ≡ before ++ line_of ws
-line_ended before text ws e = ap (λ z. z ++ (10 ∷ [])) e ∙ append_assoc before (spaced ws) (10 ∷ [])
