@@ -33,6 +33,6 @@ adds_no_number xs i columns all w ws some f g =
 -- a row that is none adds nothing
 pub no_row : (xs : List ℕ) (o : Option (List ℕ)) → option_map (λ ns. xs ++ ns) o ≡ None → o ≡ None
 no_row xs None e = refl
-no_row xs (Some ns) e = absurd (let z : ◌≡◌ {A = ℕ} 0 1 = cc in omega arith)
+no_row xs (Some ns) e = absurd cc
 
 pub ruleset row_steps = (adds_one, adds_none, adds_no_number, no_row)

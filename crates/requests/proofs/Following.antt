@@ -23,10 +23,10 @@ row_then xs ys (read zs ls) rest f e =
     let same : xs ++ zs ≡ ys = cc in
     let on : ls ≡ rest = cc in
     preceded_twice xs zs (f ls) ∙ (ap (λ l. preceded l (f ls)) same ∙ ap (λ l. preceded ys (f l)) on)
-row_then xs ys (fails g) rest f e = absurd (let z : ◌≡◌ {A = ℕ} 0 1 = cc in omega arith)
+row_then xs ys (fails g) rest f e = absurd cc
 
 row_fails : (xs : List ℕ) (r : Reading (List ℕ)) (g : Fault Expected) (f : Lines → Reading (List ℕ)) → preceded xs r ≡ fails g → preceded xs (and_then r (λ first ls. preceded first (f ls))) ≡ fails g
-row_fails xs (read zs ls) g f e = absurd (let z : ◌≡◌ {A = ℕ} 0 1 = cc in omega arith)
+row_fails xs (read zs ls) g f e = absurd cc
 row_fails xs (fails h) g f e = e
 
 -- of so many rows, the row i
@@ -66,13 +66,13 @@ module _ (ls : Lines) where
   unfolding read_matrix
   matrix_no_sides g e = then_fails _ g e
 
-  pub matrix_no_rows : (size : ℕ × ℕ) (rest : Lines) (k : ℕ) (g : Fault Expected) → read_sides ls ≡ read size rest → k ≡ row_lines size.0 size.1 → read_rows k size.1 rest ≡ fails g → read_matrix ls ≡ fails g
+  pub matrix_no_rows : (rows columns : ℕ) (rest : Lines) (k : ℕ) (g : Fault Expected) → read_sides ls ≡ read (rows, columns) rest → k ≡ row_lines rows columns → read_rows k columns rest ≡ fails g → read_matrix ls ≡ fails g
   unfolding read_matrix
-  matrix_no_rows size rest k g e f h = then_read _ size rest e ∙ then_fails _ g (ap (λ m. read_rows m size.1 rest) (sym f) ∙ h)
+  matrix_no_rows rows columns rest k g e f h = then_read _ (rows, columns) rest e ∙ then_fails _ g (ap (λ m. read_rows m columns rest) (sym f) ∙ h)
 
-  pub matrix_read : (size : ℕ × ℕ) (rest : Lines) (k : ℕ) (cells : List ℕ) (last : Lines) → read_sides ls ≡ read size rest → k ≡ row_lines size.0 size.1 → read_rows k size.1 rest ≡ read cells last → read_matrix ls ≡ read (record { rows = size.0; columns = size.1; cells = cells }) last
+  pub matrix_read : (rows columns : ℕ) (rest : Lines) (k : ℕ) (cells : List ℕ) (last : Lines) → read_sides ls ≡ read (rows, columns) rest → k ≡ row_lines rows columns → read_rows k columns rest ≡ read cells last → read_matrix ls ≡ read (record { rows = rows; columns = columns; cells = cells }) last
   unfolding read_matrix
-  matrix_read size rest k cells last e f h = then_read _ size rest e ∙ then_read _ cells last (ap (λ m. read_rows m size.1 rest) (sym f) ∙ h)
+  matrix_read rows columns rest k cells last e f h = then_read _ (rows, columns) rest e ∙ then_read _ cells last (ap (λ m. read_rows m columns rest) (sym f) ∙ h)
 
 pub ruleset matrix_steps = (matrix_no_sides, matrix_no_rows, matrix_read)
 

@@ -63,7 +63,7 @@ matrix_back n a page h =
     let rest = numbered (suc n) (row_words (row_lines a.rows a.columns) a.columns a.cells ++ page) in
     let cells = rows_back (suc n) (row_lines a.rows a.columns) a.columns a.cells page (line_cells a.rows a.columns a.cells h.full) h.cells_fit in
     let size : both (number (decimal a.rows)) (number (decimal a.columns)) ≡ Some (a.rows, a.columns) = rw (number_back a.rows h.rows_fit, number_back a.columns h.columns_fit) refl in
-    (cells.0, matrix_read _ (a.rows, a.columns) rest _ a.cells _ (ap (λ o. judged n rest (ok_or o Sides)) size) refl cells.1)
+    (cells.0, matrix_read _ a.rows a.columns rest _ a.cells _ (ap (λ o. judged n rest (ok_or o Sides)) size) refl cells.1)
 
 commanded : (ring : RingName) → command (codes "product" ∷ name_of ring ∷ []) ≡ Ok ring
 commanded Words = refl
@@ -129,8 +129,8 @@ written_reads qs h = subst (λ ls. ReadsAs ls qs None) (sym (page_back 1 (flat_m
 -- lines that stop here give no request, and stop with one fault only
 stops_no_request : (ls : Lines) (f : Option (Fault Expected)) (q : Asked) (rest : Lines) → Stops ls f → read_request ls ≡ read q rest → ⊥
 unfolding read_request
-stops_no_request (end n) f q rest h e = let z : ◌≡◌ {A = ℕ} 0 1 = cc in omega arith
-stops_no_request (line n ws ls) f q rest h e = let d = sym h.1 ∙ e in let z : ◌≡◌ {A = ℕ} 0 1 = cc in omega arith
+stops_no_request (end n) f q rest h e = cc
+stops_no_request (line n ws ls) f q rest h e = cc (sym h.1 ∙ e)
 
 stops_same : (ls : Lines) (f g : Option (Fault Expected)) → Stops ls f → Stops ls g → f ≡ g
 stops_same (end n) f g h i = h ∙ sym i

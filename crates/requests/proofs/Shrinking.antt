@@ -13,14 +13,14 @@ use Rattle.algebra.specs.Matrix.{Matrix}
 -- the two steps of a reading
 steps : {A B : Type 0} (r : Reading A) (f : A → Lines → Reading B) (y : B) (rest : Lines) → and_then r f ≡ read y rest → (x : A) × (ls : Lines) × (r ≡ read x ls) × (f x ls ≡ read y rest)
 steps (read x ls) f y rest e = (x, ls, refl, e)
-steps (fails g) f y rest e = absurd (let z : ◌≡◌ {A = ℕ} 0 1 = cc in omega arith)
+steps (fails g) f y rest e = absurd cc
 
 judged_rest : {A : Type 0} (n : ℕ) (ls : Lines) (o : Result A Expected) (x : A) (rest : Lines) → judged n ls o ≡ read x rest → ls ≡ rest
 judged_rest n ls (Ok y) x rest e = cc
-judged_rest n ls (Err d) x rest e = absurd (let z : ◌≡◌ {A = ℕ} 0 1 = cc in omega arith)
+judged_rest n ls (Err d) x rest e = absurd cc
 
 next_shorter : {A : Type 0} (e : Expected) (f : List (List ℕ) → Result A Expected) (ls : Lines) (x : A) (rest : Lines) → next_line e f ls ≡ read x rest → count rest < count ls
-next_shorter e f (end n) x rest h = absurd (let z : ◌≡◌ {A = ℕ} 0 1 = cc in omega arith)
+next_shorter e f (end n) x rest h = absurd cc
 next_shorter e f (line n ws ls) x rest h = omega (arith, ap count (judged_rest n ls (f ws) x rest h))
 
 rows_shorter : (k columns : ℕ) (ls : Lines) (cells : List ℕ) (rest : Lines) → read_rows k columns ls ≡ read cells rest → count rest ≤ count ls

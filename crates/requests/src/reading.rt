@@ -74,9 +74,8 @@ fn row_lines(rows: usize, columns: usize) -> usize
 fn read_table(heap: Global, cursor: &mut Cursor<'_>) -> Result<Table, Stop<Fault>>
     ensures { Gives matrix_of (read_matrix (left cursor.old)) result (left cursor.new) }
 {
-    let sides = read_sides(cursor)?;
-    let rows = sides.0 as usize;
-    let columns = sides.1 as usize;
+    let (rows, columns) = read_sides(cursor)?;
+    let (rows, columns) = (rows as usize, columns as usize);
     let cells = read_rows(heap, cursor, row_lines(rows, columns), columns)?;
     Ok(Table {
         rows,
