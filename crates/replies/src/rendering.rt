@@ -24,6 +24,7 @@ fn render_product(heap: Global, table: &Table) -> Result<String, AllocError>
     ensures { IfOk result (λ s. string_bytes s ≡ product_text (matrix_of table.now)) }
 {
     let mut text = String::from_str(heap, "product\n")?;
+    // no chunks: rows of no columns have lines too
     let mut rest = table.cells.as_slice();
     for _ in 0..table.rows {
         let (row, after) = rest.split_at(table.columns.min(rest.len()));
