@@ -9,13 +9,13 @@ use Rattle.logs.proofs.Replying.{one_reply}
 use Rattle.recovery.specs.declared.table.Table.{Table}
 use Rattle.pass.specs.declared.asking.Question.{Question as Asked}
 use Rattle.pass.specs.declared.asking.Reply.{Reply}
-use Rattle.pass.specs.Questions.{questioned, replied, Replied, Told}
+use Rattle.pass.specs.Questions.{questioned, replied, Replied, Writes}
 use Rattle.pass.specs.Comparisons.{Alike}
 
 -- what was written to a slice of zeros is the reply, where each call answers the question about the content of its slice
 pub wrote_replied : (m : Meaning) (t : Table) (question : List ℕ → Question) (zeros : List ℕ) {A : Type 0}
     (g : Once A (MutBor (List ℕ) × Unit {0}) (Result (Unit {0}) Refusal × (MutBor (List ℕ) × Unit {0}))) (ask : A)
-    → ((shown left : MutBor (List ℕ)) (r : Result (Unit {0}) Refusal) → g.post ask (shown, tt) (r, (left, tt)) → Told m t question shown.now r left.now)
+    → ((shown left : MutBor (List ℕ)) (r : Result (Unit {0}) Refusal) → g.post ask (shown, tt) (r, (left, tt)) → Writes m t question shown.now r left.now)
     → (reply : Reply) → ((r : Result (Unit {0}) Refusal) × (written : List ℕ) × (replied reply ≡ wrote r written) × FnOnceReturnsAtMut g ask zeros r written)
     → Replied m t (question zeros) reply
 wrote_replied m t question zeros g ask answers reply h n log held =

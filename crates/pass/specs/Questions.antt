@@ -27,5 +27,5 @@ abbrev pub Replied : Meaning → Table → LogQuestion → Reply → Type 0
 Replied m t question reply = (n : ℕ) (log : Log) → Holds m n log t → Answers m n log question (replied reply)
 
 -- what a call on a slice gave, and left there, answers a question about the slice's content, after each log that the table holds
-abbrev pub Told : Meaning → Table → (List ℕ → LogQuestion) → List ℕ → Result (Unit {0}) Refusal → List ℕ → Type 0
-Told m t question before r after = (n : ℕ) (log : Log) → Holds m n log t → Answers m n log (question before) (wrote r after)
+abbrev pub Writes : Meaning → Table → (List ℕ → LogQuestion) → List ℕ → Result (Unit {0}) Refusal → List ℕ → Type 0
+Writes m t question before r after = (n : ℕ) (log : Log) → Holds m n log t → Answers m n log (question before) (wrote r after)

@@ -2,7 +2,7 @@
 ghost use Rattle.std.specs.Prelude.{◌≡◌, ℕ, List, replicate, IfOk};
 ghost use Rattle.std.specs.Fn.{FnOnceReturnsAtMut};
 ghost use Rattle.logs.specs.Questions.{wrote, solution, kernel};
-ghost use Rattle.pass.specs.Questions.{questioned, replied, Replied, Told};
+ghost use Rattle.pass.specs.Questions.{questioned, replied, Replied, Writes};
 
 use algebra::field::Field;
 use algebra::ring::Ring;
@@ -44,14 +44,14 @@ pub fn ask<F: Field + Drop>(
             heap,
             unknowns,
             |out: &mut [u32]|
-                ensures { Told (F.Ring.meaning published.entry.now.field) published.entry.now.table solution out.old result out.new }
+                ensures { Writes (F.Ring.meaning published.entry.now.field) published.entry.now.table solution out.old result out.new }
             { published.solution(out) },
         ),
         Question::Kernel(k) => ask_into(
             heap,
             unknowns,
             |out: &mut [u32]|
-                ensures { Told (F.Ring.meaning published.entry.now.field) published.entry.now.table (kernel k) out.old result out.new }
+                ensures { Writes (F.Ring.meaning published.entry.now.field) published.entry.now.table (kernel k) out.old result out.new }
             { published.kernel(k, out) },
         ),
         Question::Unknown(j) => Ok(Reply::Said(published.unknown(j))),

@@ -97,13 +97,12 @@ fn make_offer<F: Field + Drop>(
     collection: &mut Collection<F>,
     coefficients: Vec<u32>,
     value: u32,
-    weights: Vec<u32>,
+    mut weights: Vec<u32>,
 ) -> Result<Event, AllocError>
     ensures field { collection.new.field ≡ collection.old.field }
     ensures made { IfOk result (Makes (F.Ring.meaning collection.old.field) (to_take (offer coefficients.items value weights.items)) collection.old.table collection.new.table) }
 {
     let before = weights.clone()?;
-    let mut weights = weights;
     let answer = collection.offer(&coefficients, value, &mut weights);
     Ok(Event::Offered {
         coefficients,

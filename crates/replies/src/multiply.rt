@@ -18,16 +18,14 @@ use windows::window::{Window, check};
 pub(crate) fn multiply<R: Ring>(
     heap: Global,
     r: &R,
-    left: Table,
-    right: Table,
+    mut left: Table,
+    mut right: Table,
 ) -> Result<Reply, AllocError>
     ensures { IfOk result (λ reply. replied reply ≡ product_reply (R.Ring.meaning r.now) (matrix_of left) (matrix_of right)) }
 {
     if let Err(refusal) = check_tables(&left, &right) {
         return Ok(Err(refusal));
     }
-    let mut left = left;
-    let mut right = right;
     let rows = left.rows;
     let columns = right.columns;
     let mut cells = vec![in heap; 0u32; rows * columns]?;
