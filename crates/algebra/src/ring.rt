@@ -3,7 +3,7 @@ ghost use Rattle.std.specs.Prelude.{◌≡◌, ℕ, ◌≤◌, ◌⊎◌};
 ghost use Rattle.algebra.specs.Meaning.{Meaning, RingLaws};
 
 // A ring of some order N: its elements are the codes 0 to N - 1. The functions change nothing, and answer 0 where an argument is
-// not below N.
+// not below N: 0 and no Option, so that operations on rows are total, whatever a slice holds.
 pub trait Ring {
     ghost meaning: { Self → Meaning };
 

@@ -6,7 +6,7 @@ use Rattle.std.specs.List.{AllByRecursion}
 use Rattle.std.specs.Str.{bytes_eq}
 use Rattle.text.specs.Lines.{Lines, end, line, meaningful}
 use Rattle.text.specs.Numbers.{number}
-use Rattle.text.specs.Text.{lines}
+use Rattle.text.specs.Text.{lines, only}
 use Rattle.text.proofs.Valued.{number_small}
 use Rattle.commands.specs.declared.command.FieldName.{FieldName}
 use Rattle.commands.specs.declared.command.FieldName.TheVariants.{Residues}
@@ -15,7 +15,7 @@ use Rattle.commands.specs.declared.keyword.Keyword.{Keyword}
 use Rattle.commands.specs.declared.keyword.Keyword.TheVariants.{Field, Unknowns, Offer, Rank, Publish, Solution, Kernel, Symbol, Report}
 use Rattle.commands.specs.declared.state.State.{State}
 use Rattle.commands.specs.declared.state.State.TheVariants.{Start, Named}
-use Rattle.commands.specs.Format.{Saying, names, does, only, with_first, equation, bare, counted, arguments, said_by, said, Reading, goes_on, read_from, reading}
+use Rattle.commands.specs.Format.{Saying, names, does, with_first, equation, bare, counted, arguments, said_by, said, Reading, goes_on, read_from, reading}
 use Rattle.commands.specs.Keywords.{keyword_of, keyword_named}
 use Rattle.commands.specs.Lawful.{InOrder, Small, Fits, Lawful}
 use Rattle.commands.specs.Order.{after, allowed, is_collecting, is_published}

@@ -4,7 +4,7 @@ use Rattle.std.specs.Option.{option_map, ok_or}
 use Rattle.std.specs.Str.{bytes_eq}
 use Rattle.text.specs.Lines.{Lines, end, line, meaningful}
 use Rattle.text.specs.Numbers.{number}
-use Rattle.text.specs.Text.{lines}
+use Rattle.text.specs.Text.{lines, only}
 use Rattle.commands.specs.declared.command.FieldName.{FieldName}
 use Rattle.commands.specs.declared.command.FieldName.TheVariants.{Residues}
 use Rattle.commands.specs.declared.fault.Expected.{Expected}
@@ -23,12 +23,6 @@ use Rattle.commands.specs.Steps.{Step, unknowns, offer, rank, publish, solution,
 pub data Saying : Type 0 where
   names : FieldName → Saying
   does : Step → Saying
-
--- what just one word says
-abbrev pub only : {A : Type 0} → (List ℕ → Option A) → List (List ℕ) → Option A
-only f [] = None
-only f (w ∷ []) = f w
-only f (w ∷ v ∷ ws) = None
 
 -- a coefficient before those of an equation, if all are there
 abbrev pub with_first : Option ℕ → Option (List ℕ × ℕ) → Option (List ℕ × ℕ)

@@ -2,7 +2,6 @@
 use Rattle.std.specs.Prelude.{◌≡◌, ℕ, cond, List, Some, None, codes, Option, Result, MatchResult}
 use Rattle.std.specs.Str.{bytes_eq}
 use Rattle.commands.specs.declared.keyword.Keyword.{Keyword}
-use Rattle.commands.specs.declared.keyword.UnknownWord.{UnknownWord}
 use Rattle.commands.specs.declared.keyword.Keyword.TheVariants.{Field, Unknowns, Offer, Rank, Publish, Solution, Kernel, Symbol, Report}
 use Rattle.commands.specs.Steps.{Step, unknowns, offer, rank, publish, solution, kernel, symbol, report}
 
@@ -40,7 +39,3 @@ keyword_of solution = Solution
 keyword_of (kernel k) = Kernel
 keyword_of (symbol j) = Symbol
 keyword_of report = Report
-
--- the result is what the word names, or an error where it names nothing
-abbrev pub Names : {A : Type 0} → Option A → Result A UnknownWord → Type 0
-Names o r = MatchResult r (λ x. o ≡ Some x) (λ _. o ≡ None)

@@ -1,8 +1,8 @@
 // What a text asks for on a pass: equations are offered to a block and published, and then questions are asked.
 ghost use Rattle.commands.specs.Fields.{field_named};
-ghost use Rattle.commands.specs.Keywords.{Names};
+ghost use Rattle.text.specs.Names.{Names};
 
-use crate::keyword::UnknownWord;
+use text::words::UnknownWord;
 
 // The field that a pass is computed in.
 #[derive(Clone, Copy, Debug, PartialEq, Eq)]

@@ -1,8 +1,10 @@
 // The words that commands begin with.
 ghost use Rattle.std.specs.Prelude.{Some};
-ghost use Rattle.commands.specs.Keywords.{keyword_named, keyword_text, Names};
+ghost use Rattle.text.specs.Names.{Names};
+ghost use Rattle.commands.specs.Keywords.{keyword_named, keyword_text};
 
 use std::fmt;
+use text::words::UnknownWord;
 
 #[derive(Clone, Copy, Debug, PartialEq, Eq)]
 pub enum Keyword {
@@ -16,10 +18,6 @@ pub enum Keyword {
     Symbol,
     Report,
 }
-
-// The word is none of those that can stand in its place.
-#[derive(Clone, Copy, Debug, PartialEq, Eq)]
-pub struct UnknownWord;
 
 impl TryFrom<&[u8]> for Keyword {
     type Error = UnknownWord;

@@ -1,10 +1,11 @@
 // Texts with what is read from them.
 use crate::command::{Command, FieldName};
-use crate::keyword::{Keyword, UnknownWord};
+use crate::keyword::Keyword;
 use crate::reading::parse;
 use std::alloc::Global;
 use std::process::Abort;
 use std::test::*;
+use text::words::UnknownWord;
 
 // How many commands are read, and the message of the fault after them, empty where there is none.
 fn check_text(

@@ -2,9 +2,9 @@
 ghost use Rattle.std.specs.Prelude.{◌≡◌, [], ◌∷◌, MatchOption, Some, None};
 ghost use Rattle.std.specs.Option.{option_map, ok_or};
 ghost use Rattle.text.specs.Numbers.{number};
-ghost use Rattle.text.specs.Text.{words};
+ghost use Rattle.text.specs.Text.{only, words};
 ghost use Rattle.commands.specs.declared.fault.Expected.TheVariants.{Number, Equation};
-ghost use Rattle.commands.specs.Format.{arguments, bare, equation, offer_of, only, said};
+ghost use Rattle.commands.specs.Format.{arguments, bare, equation, offer_of, said};
 ghost use Rattle.commands.specs.Giving.{Gives, saying_of};
 ghost use Rattle.commands.specs.Steps.{step_of};
 
@@ -15,24 +15,13 @@ use crate::state::{State, expected_in, is_allowed};
 use std::alloc::Global;
 use text::number::parse_number;
 use text::stop::Stop;
-use text::words::{is_same, split_word};
+use text::words::{is_same, only_word, split_word};
 
 // What a line says.
 #[derive(Drop)]
 pub(crate) enum Said {
     Field(FieldName),
     Command(Command),
-}
-
-// The word of a text that is just one word.
-fn only_word(text: &[u8]) -> Option<&[u8]>
-    ensures { MatchOption result (only (λ w. Some w) (words text.now) ≡ None) (λ w. words text.now ≡ w.now ∷ []) }
-{
-    let (word, rest) = split_word(text)?;
-    match split_word(rest) {
-        None => Some(word),
-        Some(_) => None,
-    }
 }
 
 // The one number after a keyword.

@@ -60,11 +60,6 @@ request_shorter ls q rest e =
 abbrev pub SoFar : Lines → List Asked → Lines → Type 0
 SoFar whole qs ls = (more : List Asked) (f : Option (Fault Expected)) → ReadsAs ls more f → ReadsAs whole (qs ++ more) f
 
-pub one_more : (whole : Lines) (rs : List Request) (r : Request) (ls rest : Lines) → read_request ls ≡ read (asked_by r) rest → SoFar whole (map asked_by rs) ls → SoFar whole (map asked_by (rs ++ r ∷ [])) rest
-one_more whole rs r ls rest e far more f h =
-    let same : map asked_by (rs ++ r ∷ []) ++ more ≡ map asked_by rs ++ (asked_by r ∷ more) = ap (λ l. l ++ more) (map_push asked_by rs r) ∙ append_assoc (map asked_by rs) (asked_by r ∷ []) more in
-    subst (λ l. ReadsAs whole l f) (sym same) (far (asked_by r ∷ more) f (rest, e, h))
-
 pub no_more : (whole : Lines) (qs : List Asked) (ls : Lines) (f : Option (Fault Expected)) → SoFar whole qs ls → ReadsAs ls [] f → ReadsAs whole qs f
 no_more whole qs ls f far h = subst (λ l. ReadsAs whole l f) (append-nil qs) (far [] f h)
 

@@ -1,7 +1,8 @@
 // What a text asks for: products of matrices over a named ring.
-ghost use Rattle.std.specs.Prelude.{◌≡◌};
-ghost use Rattle.std.specs.Option.{ok_or};
+ghost use Rattle.text.specs.Names.{Names};
 ghost use Rattle.requests.specs.Format.{ring_named};
+
+use text::words::UnknownWord;
 
 // The ring that a product is computed in.
 #[derive(Clone, Copy, Debug, PartialEq, Eq)]
@@ -12,23 +13,19 @@ pub enum RingName {
     OctetsByShifts,
 }
 
-// No ring has the name.
-#[derive(Clone, Copy, Debug, PartialEq, Eq)]
-pub struct UnknownRing;
-
 impl TryFrom<&[u8]> for RingName {
-    type Error = UnknownRing;
+    type Error = UnknownWord;
 
-    ghost try_from_gives = { λ name r. r ≡ ok_or (ring_named name.now) (record {}) };
+    ghost try_from_gives = { λ w r. Names (ring_named w.now) r };
 
     #[tactic(auto, using(crate::proofs::Naming::rings_read))]
-    fn try_from(name: &[u8]) -> Result<RingName, UnknownRing> {
+    fn try_from(name: &[u8]) -> Result<RingName, UnknownWord> {
         match name {
             b"words" => Ok(RingName::Words),
             b"residues" => Ok(RingName::Residues),
             b"octets" => Ok(RingName::Octets),
             b"octets-by-shifts" => Ok(RingName::OctetsByShifts),
-            _ => Err(UnknownRing),
+            _ => Err(UnknownWord),
         }
     }
 }

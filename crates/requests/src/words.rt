@@ -9,7 +9,7 @@ use crate::request::RingName;
 use text::lines::Line;
 use text::number::parse_number;
 use text::stop::Stop;
-use text::words::{is_same, split_word};
+use text::words::{is_same, only_word, split_word};
 
 // The ring of a line `product RING`.
 pub(crate) fn parse_command(text: &[u8]) -> Result<RingName, Expected>
@@ -19,11 +19,8 @@ pub(crate) fn parse_command(text: &[u8]) -> Result<RingName, Expected>
     if !is_same(word, b"product") {
         return Err(Expected::Command);
     }
-    let (name, rest) = split_word(rest).ok_or(Expected::Ring)?;
-    match split_word(rest) {
-        None => RingName::try_from(name).map_err(|_| Expected::Ring),
-        Some(_) => Err(Expected::Ring),
-    }
+    let name = only_word(rest).ok_or(Expected::Ring)?;
+    RingName::try_from(name).map_err(|_| Expected::Ring)
 }
 
 // The rows and the columns of a line that is just two numbers.
@@ -31,11 +28,7 @@ pub(crate) fn parse_sides(text: &[u8]) -> Option<(u32, u32)>
     ensures { result ≡ sides (words text.now) }
 {
     let (rows, rest) = split_word(text)?;
-    let (columns, rest) = split_word(rest)?;
-    match split_word(rest) {
-        None => Some((parse_number(rows)?, parse_number(columns)?)),
-        Some(_) => None,
-    }
+    Some((parse_number(rows)?, parse_number(only_word(rest)?)?))
 }
 
 // Adds the numbers of a line to the cells, if it has just as many as there are columns.

@@ -19,7 +19,7 @@ impl Ring for Residues {
     ghost laws = { λ r. modulo_laws _ (lit≤ tt) (lit≤ tt) };
 
     fn order(&self) -> u64 {
-        MODULUS as u64
+        u64::from(MODULUS)
     }
 
     fn sum(&self, a: u32, b: u32) -> u32 {

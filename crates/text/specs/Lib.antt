@@ -6,3 +6,4 @@ pub mod Numbers
 pub mod Canonical
 pub mod Writing
 pub mod Faults
+pub mod Names

@@ -1,5 +1,5 @@
 -- The lines of a text and the words of a line, over lists of bytes.
-use Rattle.std.specs.Prelude.{ℕ, Bool, false, cond, not, ◌||◌, List, [], ◌∷◌, ◌==◌}
+use Rattle.std.specs.Prelude.{ℕ, Bool, false, cond, not, ◌||◌, List, [], ◌∷◌, None, Option, ◌==◌}
 
 -- a space, a tab or a carriage return
 unfoldable pub blank : ℕ → Bool
@@ -24,3 +24,9 @@ worded (b ∷ bs) = not (blank b)
 abbrev pub words : List ℕ → List (List ℕ)
 words [] = []
 words (b ∷ bs) = cond (blank b) (words bs) (cond (worded bs) (joined_to b (words bs)) ((b ∷ []) ∷ words bs))
+
+-- what just one word says
+abbrev pub only : {A : Type 0} → (List ℕ → Option A) → List (List ℕ) → Option A
+only f [] = None
+only f (w ∷ []) = f w
+only f (w ∷ v ∷ ws) = None

@@ -1,7 +1,7 @@
 // The words of a line.
-ghost use Rattle.std.specs.Prelude.{◌≡◌, [], ◌∷◌, MatchOption};
+ghost use Rattle.std.specs.Prelude.{◌≡◌, [], ◌∷◌, Some, None, MatchOption};
 ghost use Rattle.std.specs.Str.{bytes_eq};
-ghost use Rattle.text.specs.Text.{blank, words};
+ghost use Rattle.text.specs.Text.{blank, only, words};
 
 // The first word and what follows it.
 pub fn split_word(text: &[u8]) -> Option<(&[u8], &[u8])>
@@ -20,6 +20,22 @@ fn is_blank(byte: u8) -> bool
     matches!(byte, b' ' | b'\t' | b'\r')
 }
 
+// The word of a text that is just one word.
+pub fn only_word(text: &[u8]) -> Option<&[u8]>
+    ensures { MatchOption result (only (λ w. Some w) (words text.now) ≡ None) (λ w. words text.now ≡ w.now ∷ []) }
+{
+    let (word, rest) = split_word(text)?;
+    match split_word(rest) {
+        None => Some(word),
+        Some(_) => None,
+    }
+}
+
+// The word is none of those that can stand in its place.
+#[derive(Clone, Copy, Debug, PartialEq, Eq)]
+pub struct UnknownWord;
+
+// What `==` on bytes says, in the words of the definitions of formats.
 pub fn is_same(word: &[u8], name: &[u8]) -> bool
     ensures { result ≡ bytes_eq word.now name.now }
 {

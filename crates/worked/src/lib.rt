@@ -19,27 +19,27 @@ pub fn worked_values() -> bool
     ensures answered { result ≡ true }
 {
     residue_values()
-        & octet_values(&Octets(ByTable))
-        & octet_values(&Octets(ByShifts))
-        & word_values()
+        && octet_values(&Octets(ByTable))
+        && octet_values(&Octets(ByShifts))
+        && word_values()
 }
 
 fn residue_values() -> bool
     ensures { result ≡ true }
 {
     (Residues.sum(65520, 1) == 0)
-        & (Residues.product(65520, 65520) == 1)
-        & (Residues.inverse(2) == Some(32761))
-        & (Residues.inverse(0) == None)
+        && (Residues.product(65520, 65520) == 1)
+        && (Residues.inverse(2) == Some(32761))
+        && (Residues.inverse(0) == None)
 }
 
 fn octet_values<F: Field>(f: &F) -> bool
     ensures { F.Ring.meaning f.now ≡ octets → result ≡ true }
 {
     (f.product(128, 2) == 29)
-        & (f.product(3, 7) == 9)
-        & (f.product(3, 3) == 5)
-        & (f.inverse(2) == Some(142))
+        && (f.product(3, 7) == 9)
+        && (f.product(3, 3) == 5)
+        && (f.inverse(2) == Some(142))
 }
 
 fn word_values() -> bool
