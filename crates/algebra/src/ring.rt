@@ -1,5 +1,5 @@
 // Finite commutative rings, whose elements are codes.
-ghost use Rattle.std.specs.Prelude.{◌≡◌, ℕ, ◌≤◌, ◌⊎◌};
+ghost use Rattle.std.specs.Prelude.{◌≡◌, ◌≤◌, ◌⊎◌};
 ghost use Rattle.algebra.specs.Meaning.{Meaning, RingLaws};
 
 // A ring of some order N: its elements are the codes 0 to N - 1. The functions change nothing, and answer 0 where an argument is

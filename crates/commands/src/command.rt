@@ -4,7 +4,7 @@ ghost use Rattle.text.specs.Names.{Names};
 
 use text::words::UnknownWord;
 
-// The field that a pass is computed in.
+// The field that a pass is computed in. (The rings of `requests` are the names of another format, in which integers stand too.)
 #[derive(Clone, Copy, Debug, PartialEq, Eq)]
 pub enum FieldName {
     Residues,

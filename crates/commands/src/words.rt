@@ -1,10 +1,10 @@
 // What the words of one line say: the field, or a command.
-ghost use Rattle.std.specs.Prelude.{◌≡◌, [], ◌∷◌, MatchOption, Some, None};
+ghost use Rattle.std.specs.Prelude.{◌≡◌, [], ◌∷◌, MatchResult};
 ghost use Rattle.std.specs.Option.{option_map, ok_or};
 ghost use Rattle.text.specs.Numbers.{number};
 ghost use Rattle.text.specs.Text.{only, words};
-ghost use Rattle.commands.specs.declared.fault.Expected.TheVariants.{Number, Equation};
-ghost use Rattle.commands.specs.Format.{arguments, bare, equation, offer_of, said};
+ghost use Rattle.commands.specs.declared.fault.Expected.TheVariants.{Number, Nothing, Equation};
+ghost use Rattle.commands.specs.Format.{arguments, equation, offer_of, said};
 ghost use Rattle.commands.specs.Giving.{Gives, saying_of};
 ghost use Rattle.commands.specs.Steps.{step_of};
 
@@ -33,16 +33,6 @@ fn parse_count(keyword: Keyword, text: &[u8]) -> Result<usize, Expected>
     Ok(count as usize)
 }
 
-// A command that is its keyword alone.
-fn parse_bare(keyword: Keyword, text: &[u8], command: Command) -> Result<Said, Stop<Expected>>
-    ensures { Gives saying_of (bare keyword (step_of command) (words text.now)) result }
-{
-    match split_word(text) {
-        None => Ok(Said::Command(command)),
-        Some(_) => Err(Stop::Malformed(Expected::Nothing { after: keyword })),
-    }
-}
-
 // The offer of an equation: numbers up to `|`, and one number after it.
 #[tactic(auto, using(crate::proofs::Offering::one_more))]
 fn parse_offer(heap: Global, text: &[u8]) -> Result<Command, Stop<Expected>>
@@ -63,50 +53,47 @@ fn parse_offer(heap: Global, text: &[u8]) -> Result<Command, Stop<Expected>>
         coefficients.push(coefficient)?;
         rest = after;
     }
-    Err(Stop::Malformed(Expected::Equation))
+    Err(Expected::Equation.into())
+}
+
+// Nothing stands after a keyword.
+fn expect_nothing(keyword: Keyword, text: &[u8]) -> Result<(), Expected>
+    ensures { MatchResult result (λ _. words text.now ≡ []) (λ e. (e ≡ Nothing keyword) × ((w : _) × (ws : _) × (words text.now ≡ w ∷ ws))) }
+{
+    match split_word(text) {
+        None => Ok(()),
+        Some(_) => Err(Expected::Nothing { after: keyword }),
+    }
 }
 
 fn parse_arguments(heap: Global, keyword: Keyword, text: &[u8]) -> Result<Said, Stop<Expected>>
     ensures { Gives saying_of (arguments keyword (words text.now)) result }
 {
-    match keyword {
+    let command = match keyword {
         Keyword::Field => {
             let name = only_word(text).ok_or(Expected::FieldName)?;
             let field = FieldName::try_from(name).map_err(|_| Expected::FieldName)?;
-            Ok(Said::Field(field))
+            return Ok(Said::Field(field));
         }
-        Keyword::Unknowns => {
-            let count = parse_count(keyword, text)?;
-            Ok(Said::Command(Command::Unknowns(count)))
-        }
-        Keyword::Offer => {
-            let offer = parse_offer(heap, text)?;
-            Ok(Said::Command(offer))
-        }
-        Keyword::Kernel => {
-            let kernel = parse_count(keyword, text)?;
-            Ok(Said::Command(Command::Kernel(kernel)))
-        }
-        Keyword::Symbol => {
-            let symbol = parse_count(keyword, text)?;
-            Ok(Said::Command(Command::Symbol(symbol)))
-        }
-        Keyword::Rank => parse_bare(keyword, text, Command::Rank),
-        Keyword::Publish => parse_bare(keyword, text, Command::Publish),
-        Keyword::Solution => parse_bare(keyword, text, Command::Solution),
-        Keyword::Report => parse_bare(keyword, text, Command::Report),
-    }
+        Keyword::Unknowns => Command::Unknowns(parse_count(keyword, text)?),
+        Keyword::Offer => parse_offer(heap, text)?,
+        Keyword::Kernel => Command::Kernel(parse_count(keyword, text)?),
+        Keyword::Symbol => Command::Symbol(parse_count(keyword, text)?),
+        Keyword::Rank => expect_nothing(keyword, text).map(|()| Command::Rank)?,
+        Keyword::Publish => expect_nothing(keyword, text).map(|()| Command::Publish)?,
+        Keyword::Solution => expect_nothing(keyword, text).map(|()| Command::Solution)?,
+        Keyword::Report => expect_nothing(keyword, text).map(|()| Command::Report)?,
+    };
+    Ok(Said::Command(command))
 }
 
 // What a line says in this state of the pass.
 pub(crate) fn parse_line(heap: Global, state: State, text: &[u8]) -> Result<Said, Stop<Expected>>
     ensures { Gives saying_of (said state (words text.now)) result }
 {
-    let Some((word, rest)) = split_word(text) else {
-        return Err(Stop::Malformed(expected_in(state)));
-    };
+    let (word, rest) = split_word(text).ok_or(expected_in(state))?;
     match Keyword::try_from(word) {
         Ok(keyword) if is_allowed(keyword, state) => parse_arguments(heap, keyword, rest),
-        _ => Err(Stop::Malformed(expected_in(state))),
+        _ => Err(expected_in(state).into()),
     }
 }

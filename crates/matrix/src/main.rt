@@ -1,7 +1,7 @@
 // Multiplies matrices: reads requests from the file that the argument names, or from standard input, and prints the reply to each.
 #![tactic(auto)]
 
-use anyhow::anyhow;
+use anyhow::{anyhow, ensure};
 use replies::answering::answer;
 use replies::rendering::render;
 use requests::reading::parse;
@@ -21,7 +21,8 @@ fn main(rt: HostRuntime) -> ExitCode {
     }
 }
 
-// Prints the replies to the requests before the first fault, which is the error. (The longest message of a fault fits in one.)
+// Prints the replies to the requests before the first fault, which is the error: it holds 120 bytes of text, and no message of a
+// fault is longer.
 fn run(rt: &HostRuntime) -> anyhow::Result<()> {
     let text = read_text(rt)?;
     let parsed = parse(rt.alloc(), &text)?;
@@ -45,9 +46,10 @@ fn print_reply(rt: &HostRuntime, request: Request) -> anyhow::Result<()> {
 fn read_text(rt: &HostRuntime) -> anyhow::Result<Vec<u8>> {
     let mut arguments = env::args(rt)?.skip(1);
     let path = arguments.next();
-    if arguments.next().is_some() {
-        return Err(anyhow!("expected at most one argument, the file with the requests"));
-    }
+    ensure!(
+        arguments.next().is_none(),
+        "expected at most one argument, the file with the requests"
+    );
     match path {
         Some(path) => read_file(rt, path),
         None => {

@@ -1,5 +1,5 @@
-// Why calls were not recorded.
-ghost use Rattle.std.specs.Prelude.{◌≡◌};
+// Why calls were not recorded. (The stop of readers is a type of `text`, which has nothing to do with calls.)
+ghost use Rattle.std.specs.Prelude.{◌≡◌, MatchResult};
 ghost use Rattle.pass.specs.declared.stop.Stop.TheVariants.{Refused, OutOfMemory};
 
 use logs::refusal::Refusal;
@@ -9,6 +9,18 @@ use std::alloc::AllocError;
 pub enum Stop {
     Refused(Refusal),
     OutOfMemory(AllocError),
+}
+
+impl Stop {
+    // The refusal, unless memory ran out.
+    pub fn into_refused(self) -> Result<Refusal, AllocError>
+        ensures { MatchResult result (λ x. self ≡ Refused x) (λ e. self ≡ OutOfMemory e) }
+    {
+        match self {
+            Stop::Refused(refusal) => Ok(refusal),
+            Stop::OutOfMemory(error) => Err(error),
+        }
+    }
 }
 
 impl From<Refusal> for Stop {

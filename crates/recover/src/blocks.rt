@@ -6,7 +6,6 @@ use algebra::field::Field;
 use commands::command::Command;
 use logs::refusal::Refusal;
 use pass::recording::{Call, Recording, record};
-use pass::stop::Stop;
 use recovery::table::UNKNOWNS;
 use std::alloc::{AllocError, Global};
 
@@ -97,8 +96,7 @@ pub(crate) fn record_block<F: Field + Drop>(
 ) -> Result<Result<Recording<F>, Refusal>, AllocError> {
     match record(heap, field, block.unknowns, calls_of(heap, block)?) {
         Ok(recording) => Ok(Ok(recording)),
-        Err(Stop::Refused(refusal)) => Ok(Err(refusal)),
-        Err(Stop::OutOfMemory(error)) => Err(error),
+        Err(stop) => Ok(Err(stop.into_refused()?)),
     }
 }
 
@@ -117,6 +115,7 @@ fn calls_of(heap: Global, block: &Block) -> Result<Vec<Call>, AllocError> {
                 weights: vec![in heap; 0; block.unknowns.min(UNKNOWNS)]?,
             })?,
             Command::Rank => calls.push(Call::Rank)?,
+            // no other command stands before a publication
             _ => {}
         }
     }

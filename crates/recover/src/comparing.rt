@@ -16,7 +16,7 @@ use std::alloc::{AllocError, Global};
 use std::cmp::Ordering;
 use std::process::ExitCode;
 
-// What two published blocks come to.
+// What two published blocks come to. (No Result: a difference is an answer, and no error.)
 enum Outcome {
     // So many published answers, and all equal.
     Agree { answers: usize },
@@ -36,6 +36,7 @@ pub(crate) fn compare_passes(
     let Some(b) = read_pass(rt, second)? else {
         return Ok(ExitCode::FAILURE);
     };
+    // a match for each call: a generic function is no value to hand on
     match a.field {
         FieldName::Residues => compare_with(rt, Residues, &a.commands, &b),
         FieldName::Octets => compare_with(rt, Octets(ByTable), &a.commands, &b),

@@ -1,4 +1,4 @@
-// Reading the text of a pass.
+// Reading the text of a pass. (`matrix` reads as this does: a crate for both would promise nothing that a contract can say.)
 use anyhow::anyhow;
 use std::fs;
 use std::io::Read;

@@ -35,8 +35,11 @@ fn run(rt: &HostRuntime) -> anyhow::Result<ExitCode> {
         "expected at most two arguments, files with the text of a pass"
     );
     match (first, second) {
-        (Some(first), Some(second)) => compare_passes(rt, first.as_str(), second.as_str()),
-        (Some(path), None) => solve_pass(rt, &read_file(rt, path.as_str())?),
-        _ => solve_pass(rt, &read_input(rt)?),
+        (Some(first), Some(second)) => {
+            return compare_passes(rt, first.as_str(), second.as_str());
+        }
+        (Some(path), None) => solve_pass(rt, &read_file(rt, path.as_str())?)?,
+        _ => solve_pass(rt, &read_input(rt)?)?,
     }
+    Ok(ExitCode::SUCCESS)
 }

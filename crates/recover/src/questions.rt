@@ -21,6 +21,7 @@ pub(crate) fn reply_line(
             kernel_line(heap, k, *result, content)
         }
         (Question::Unknown(j), Reply::Said(result)) => symbol_line(heap, j, *result),
+        // there is none: a reply is of the kind of its question
         _ => Ok(String::new(heap)),
     }
 }

@@ -2,6 +2,7 @@
 use crate::blocks::{Block, Blocks, record_block};
 use crate::questions::{ask_line, report_text};
 use algebra::field::Field;
+use anyhow::anyhow;
 use answers::calls::{offer_line, published_line, rank_line, refusal_line};
 use commands::command::{Command, FieldName};
 use commands::reading::parse;
@@ -14,21 +15,21 @@ use rings::octets::Octets;
 use rings::octets::by_shifts::ByShifts;
 use rings::octets::by_table::ByTable;
 use rings::residues::Residues;
-use std::process::ExitCode;
 
-// Prints the answers to the commands before the first fault, and then the fault.
-pub(crate) fn solve_pass(rt: &HostRuntime, text: &[u8]) -> anyhow::Result<ExitCode> {
+// Prints the answers to the commands before the first fault, which is the error: it holds 120 bytes of text, and no message of a
+// fault is longer.
+pub(crate) fn solve_pass(rt: &HostRuntime, text: &[u8]) -> anyhow::Result<()> {
     let parsed = parse(rt.alloc(), text)?;
+    // a match for each call: a generic function is no value to hand on
     match parsed.field {
         FieldName::Residues => solve_blocks(rt, Residues, &parsed.commands)?,
         FieldName::Octets => solve_blocks(rt, Octets(ByTable), &parsed.commands)?,
         FieldName::OctetsByShifts => solve_blocks(rt, Octets(ByShifts), &parsed.commands)?,
     }
-    if let Some(fault) = parsed.fault {
-        eprintln!(rt; "recover: {fault}")?;
-        return Ok(ExitCode::FAILURE);
+    match parsed.fault {
+        None => Ok(()),
+        Some(fault) => Err(anyhow!("{fault}")),
     }
-    Ok(ExitCode::SUCCESS)
 }
 
 fn solve_blocks<F: Field + Copy + Drop>(
@@ -48,7 +49,7 @@ fn solve_blocks<F: Field + Copy + Drop>(
 // No collection was opened: each command of the block is refused.
 fn print_refused(rt: &HostRuntime, block: &Block, refusal: Refusal) -> anyhow::Result<()> {
     let line = refusal_line(rt.alloc(), refusal)?;
-    for _command in 0..block.count_commands() {
+    for _ in 0..block.count_commands() {
         print!(rt; "{line}")?;
     }
     Ok(())
@@ -119,14 +120,24 @@ fn print_question<F: Field + Drop>(
     unknowns: usize,
     question: &Command,
 ) -> anyhow::Result<()> {
-    let heap = rt.alloc();
-    let text = match question {
-        Command::Solution => ask_line(heap, published, unknowns, Question::Solution)?,
-        Command::Kernel(k) => ask_line(heap, published, unknowns, Question::Kernel(*k))?,
-        Command::Symbol(j) => ask_line(heap, published, unknowns, Question::Unknown(*j))?,
-        Command::Report => report_text(heap, published, unknowns)?,
-        _ => String::new(heap),
+    let question = match question {
+        Command::Solution => Question::Solution,
+        Command::Kernel(k) => Question::Kernel(*k),
+        Command::Symbol(j) => Question::Unknown(*j),
+        // the reader lets nothing else follow a publication
+        _ => return print_report(rt, published, unknowns),
     };
+    let line = ask_line(rt.alloc(), published, unknowns, question)?;
+    print!(rt; "{line}")?;
+    Ok(())
+}
+
+fn print_report<F: Field + Drop>(
+    rt: &HostRuntime,
+    published: &Published<F>,
+    unknowns: usize,
+) -> anyhow::Result<()> {
+    let text = report_text(rt.alloc(), published, unknowns)?;
     print!(rt; "{text}")?;
     Ok(())
 }

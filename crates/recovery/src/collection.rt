@@ -13,7 +13,8 @@ use algebra::ring::Ring;
 use logs::answer::Answer;
 use logs::refusal::Refusal;
 
-// Equations over a field, offered one by one. The weights of an answer refer to the kept equations in the order of keeping.
+// Equations over a field, offered one by one. The weights of an answer refer to the kept equations in the order of keeping. That the
+// table holds a log is a clause of each call and no invariant: a ghost field of a generic struct cannot name the meaning of its field.
 #[derive(Drop)]
 pub struct Collection<F: Field + Drop> {
     field: F,

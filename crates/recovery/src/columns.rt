@@ -36,7 +36,7 @@ impl Table {
             .position(|c| c == j || self.slots[j][c] != 0)
     }
 
-    // Writes the negatives of column f, with 1 at f.
+    // Writes the negatives of column f, with 1 at f. By index, as `write_values`.
     pub(crate) fn write_kernel<R: Ring>(&self, r: &R, f: usize, out: &mut [u32])
         requires long { length out.old ≡ self.now.width }
         requires inside { f < self.now.width }

@@ -1,5 +1,5 @@
 // The steps of elimination on the slots of a table.
-ghost use Rattle.std.specs.Prelude.{◌≡◌, ℕ, ◌+◌, ◌<◌, ◌≤◌, length};
+ghost use Rattle.std.specs.Prelude.{◌≡◌, ℕ, ◌<◌, ◌≤◌, length};
 ghost use Rattle.algebra.specs.Vectors.{entries};
 ghost use Rattle.recovery.specs.Cells.{cell, taken_out, Extended, FirstNonzero, Divided, Cleared, Placed};
 
@@ -32,12 +32,13 @@ pub(crate) fn divide<F: Field>(f: &F, row: &mut [u32], q: usize)
     requires { q < length row.old }
     ensures { Divided (F.Ring.meaning f.now) q row.old row.new }
 {
+    // there is one where the cell is not 0
     if let Some(by) = f.inverse(row[q]) {
         scale(f, row, by);
     }
 }
 
-// Writes the negatives of the cells, as far as `out` goes.
+// Writes the negatives of the cells, as far as `out` goes. By index, as `write_values`.
 pub(crate) fn write_negatives<R: Ring>(r: &R, row: &[u32], out: &mut [u32])
     requires { length out.old ≤ length row.now }
     ensures { (k : ℕ) → k < length out.old → entries out.new k ≡ (R.Ring.meaning r.now).negative (entries row.now k) }
@@ -77,7 +78,7 @@ fn clear<R: Ring>(r: &R, slots: &mut [[u32; CELLS]], row: &[u32], q: usize)
     }
 }
 
-// Writes the row to the front of a slot.
+// Writes the row to the front of a slot. (Rows are slices, so that a collection of few unknowns works on no more cells than it has.)
 fn write(slot: &mut [u32; CELLS], row: &[u32])
     requires { length row.now ≤ CELLS }
     ensures { (k : ℕ) → k < length row.now → entries slot.new k ≡ entries row.now k }

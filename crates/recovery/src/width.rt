@@ -1,5 +1,5 @@
 // The number of unknowns of a collection.
-ghost use Rattle.std.specs.Prelude.{◌≡◌, true, false, [], MatchResult};
+ghost use Rattle.std.specs.Prelude.{◌≡◌, true, false, MatchResult};
 ghost use Rattle.recovery.specs.Widths.{is_width};
 
 use crate::table::UNKNOWNS;

@@ -29,14 +29,12 @@ pub(crate) fn multiply<R: Ring>(
     let rows = left.rows;
     let columns = right.columns;
     let mut cells = vec![in heap; 0u32; rows * columns]?;
-    match write_product(r, &mut left, &mut right, &mut cells) {
-        Ok(()) => Ok(Ok(Table {
-            rows,
-            columns,
-            cells,
-        })),
-        Err(refusal) => Ok(Err(refusal)),
-    }
+    let written = write_product(r, &mut left, &mut right, &mut cells);
+    Ok(written.map(|()| Table {
+        rows,
+        columns,
+        cells,
+    }))
 }
 
 // Whether both tables can be shown as windows.

@@ -1,7 +1,6 @@
 // What a faulty line should have held.
 ghost use Rattle.std.specs.Prelude.{◌≡◌, Some};
-ghost use Rattle.std.specs.Fmt.{WritesOnOk};
-ghost use Rattle.requests.specs.Messages.{expected_text, row_text};
+ghost use Rattle.requests.specs.Messages.{expected_text};
 ghost use Rattle.text.specs.declared.stop.Stop.TheVariants.{Malformed};
 
 use std::fmt;

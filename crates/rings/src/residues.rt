@@ -1,5 +1,5 @@
 // The residues modulo 65521, the largest prime below 2^16: a field.
-ghost use Rattle.std.specs.Prelude.{◌≡◌, ◌+◌, ◌*◌, ◌%◌, ◌<◌};
+ghost use Rattle.std.specs.Prelude.{◌+◌, ◌*◌, ◌%◌, ◌<◌};
 ghost use Rattle.rings.specs.Modulo.{residues};
 ghost use Rattle.std.proofs.Common.{lit≤};
 ghost use Rattle.rings.specs.ModuloLaws.{modulo_laws};

@@ -6,8 +6,6 @@ ghost use Rattle.runs.specs.Runs.{Runs};
 
 use crate::run::{Asked, Step};
 use algebra::field::Field;
-use logs::answer::{Answer, Symbol};
-use logs::refusal::Refusal;
 use recovery::collection::Collection;
 use recovery::published::Published;
 use recovery::width::Width;
@@ -26,7 +24,7 @@ fn offer_matches<F: Field + Drop, const N: usize>(
 }
 
 // Offers the equations of the steps, up to the first that does not match.
-// It is a loop since nothing is proved of a closure in `all` that changes the collection.
+// It is a loop since a closure in `all` that changes the collection would need an invariant on what it captures.
 fn offers_match<F: Field + Drop, const N: usize>(
     collection: &mut Collection<F>,
     steps: &[Step<N>],

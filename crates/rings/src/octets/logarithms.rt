@@ -23,7 +23,7 @@ const LOGARITHMS: [u8; 255] = [
     214, 244, 234, 168, 80, 88, 175,
 ];
 
-// The logarithm of power i is i.
+// The logarithm of power i is i: the law of this table, as that of `powers` is another.
 fn logarithms() -> &'static [u8; 255]
     ensures { T (are_logarithms 0x11D result.now) }
 {
