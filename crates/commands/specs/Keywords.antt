@@ -1,5 +1,5 @@
 -- The words that commands begin with.
-use Rattle.std.specs.Prelude.{◌≡◌, ℕ, cond, List, Some, None, codes, Option, Result, MatchResult}
+use Rattle.std.specs.Prelude.{ℕ, cond, List, Some, None, codes, Option}
 use Rattle.std.specs.Str.{bytes_eq}
 use Rattle.commands.specs.declared.keyword.Keyword.{Keyword}
 use Rattle.commands.specs.declared.keyword.Keyword.TheVariants.{Field, Unknowns, Offer, Rank, Publish, Solution, Kernel, Symbol, Report}

@@ -1,11 +1,11 @@
 -- The steps of the loops over rows and slots.
-use Rattle.std.proofs.Common.{◌≡◌, ℕ, zero, suc, ◌+◌, ◌-◌, ◌<◌, ◌≤◌, eqb, ◌≢◌, List, [], ◌++◌, length, get_or, set, take, drop, replicate, sym, refl, ap, ◌∙◌, ap₂, add-one, arith, length-append, length-drop, get_or-drop, get_or-take, get_or-set_other, get_or-set_same, eq-eqb, ne_eqb}
+use Rattle.std.proofs.Common.{Some, None, Option, ◌≡◌, ℕ, zero, suc, ◌+◌, ◌-◌, ◌<◌, ◌≤◌, eqb, ◌≢◌, List, [], ◌++◌, length, get_or, set, take, drop, replicate, sym, refl, ap, ◌∙◌, ap₂, add-one, arith, length-append, length-drop, get_or-drop, get_or-take, get_or-set_other, get_or-set_same, eq-eqb, ne_eqb}
 use Rattle.std.proofs.lemmas.List.{get_or_append_left, get_or-append_right, length-take-le}
 use Rattle.std.proofs.lemmas.Bool.{cond-true, cond-false}
 use Rattle.algebra.specs.Meaning.{Meaning}
 use Rattle.algebra.specs.Multiples.{MultipleAdded}
 use Rattle.algebra.specs.Vectors.{entries}
-use Rattle.recovery.specs.Cells.{cell, plus_times, taken_out, Extended, Cleared, Placed}
+use Rattle.recovery.specs.Cells.{cell, plus_times, taken_out, Extended, FirstNonzero, Cleared, Placed}
 
 pub zeros_at : (n k : ℕ) → get_or {A = ℕ} (replicate n 0) k 0 ≡ 0
 zeros_at zero k = refl
@@ -78,3 +78,13 @@ module _ (m : Meaning) where
     where
       long : length (take n before) ≡ n
       long = length-take-le n before within
+
+-- the first cell of the front that is not 0 is the first of n cells
+pub first_of : (n : ℕ) (xs : List ℕ) (q : Option ℕ) → n ≤ length xs → FirstNonzero (length (take n xs)) (take n xs) q → FirstNonzero n xs q
+first_of n xs None l h = λ k m. sym (get_or-take n xs k 0 m) ∙ h k (omega (arith, m, length-take-le n xs l))
+first_of n xs (Some q) l h =
+    let m : q < n = omega (arith, h.0, length-take-le n xs l) in (
+      m,
+      (λ z. h.1 (get_or-take n xs q 0 m ∙ z)),
+      (λ k s. sym (get_or-take n xs k 0 (omega (arith, m, s))) ∙ h.2 k s),
+    )

@@ -87,7 +87,7 @@ impl<F: Field + Drop> Collection<F> {
         let mut cells = extended(coefficients, value);
         let left = &mut cells[..2 * n + 1];
         self.table.reduce(&self.field, left, coefficients);
-        match first_nonzero(left, n) {
+        match first_nonzero(&left[..n]) {
             Some(q) => {
                 weights.fill(0);
                 let count = self.table.count;

@@ -19,12 +19,11 @@ pub(crate) fn extended(coefficients: &[u32], value: u32) -> [u32; CELLS]
     row
 }
 
-// The first of n cells that is not 0.
-pub(crate) fn first_nonzero(row: &[u32], n: usize) -> Option<usize>
-    requires { n ≤ length row.now }
-    ensures { FirstNonzero n row.now result }
+// The first cell that is not 0.
+pub(crate) fn first_nonzero(row: &[u32]) -> Option<usize>
+    ensures { FirstNonzero (length row.now) row.now result }
 {
-    row[..n].iter().position(|x| *x != 0)
+    row.iter().position(|x| *x != 0)
 }
 
 // Divides the row by its cell q.

@@ -1,10 +1,9 @@
 -- Each request takes at least one line, and requests read one by one are those of the whole text.
-use Rattle.std.proofs.Common.{◌≡◌, ℕ, zero, suc, ◌<◌, ◌≤◌, List, [], ◌∷◌, ◌++◌, map, Some, None, Ok, Err, Option, Result, sym, refl, ap, ◌∙◌, subst, arith}
-use Rattle.std.proofs.lemmas.List.{append_assoc, append-nil, map_push}
+use Rattle.std.proofs.Common.{◌≡◌, ℕ, zero, suc, ◌<◌, ◌≤◌, List, [], ◌++◌, Some, None, Ok, Err, Option, Result, sym, refl, ap, subst, arith}
+use Rattle.std.proofs.lemmas.List.{append-nil}
 use Rattle.text.specs.declared.fault.Fault.{Fault}
 use Rattle.requests.specs.declared.fault.Expected.{Expected}
-use Rattle.requests.specs.declared.request.Request.{Request}
-use Rattle.requests.specs.Asked.{asked_by, Asked}
+use Rattle.requests.specs.Asked.{Asked}
 use Rattle.text.specs.Lines.{Lines, end, line}
 use Rattle.text.proofs.Counting.{count}
 use Rattle.requests.specs.Format.{Reading, read, fails, and_then, judged, next_line, read_rows, read_matrix, read_request, ReadsAs}

@@ -13,15 +13,15 @@ use rings::octets::by_table::ByTable;
 use rings::residues::Residues;
 use rings::words::Words;
 
-// Every line of the table holds, and the supplied rings answer it.
+// Every line of the table holds, and the supplied rings answer it. (By `&` there is one exit, where one proof has every value.)
 pub fn worked_values() -> bool
     ensures table { AllHold table }
     ensures answered { result ≡ true }
 {
     residue_values()
-        && octet_values(&Octets(ByTable))
-        && octet_values(&Octets(ByShifts))
-        && word_values()
+        & octet_values(&Octets(ByTable))
+        & octet_values(&Octets(ByShifts))
+        & word_values()
 }
 
 fn residue_values() -> bool
@@ -37,9 +37,9 @@ fn octet_values<F: Field>(f: &F) -> bool
     ensures { F.Ring.meaning f.now ≡ octets → result ≡ true }
 {
     (f.product(128, 2) == 29)
-        && (f.product(3, 7) == 9)
-        && (f.product(3, 3) == 5)
-        && (f.inverse(2) == Some(142))
+        & (f.product(3, 7) == 9)
+        & (f.product(3, 3) == 5)
+        & (f.inverse(2) == Some(142))
 }
 
 fn word_values() -> bool
