@@ -30,7 +30,7 @@ pub enum Reply {
     Said(Result<Symbol, Refusal>),
 }
 
-// Asks a question. Where it wants a slice, one of so many zeros is lent.
+// Asks a question. Where it wants a slice, one of so many zeros is lent: any number may be given, and a wrong one is refused.
 pub fn ask<F: Field + Drop>(
     heap: Global,
     unknowns: usize,

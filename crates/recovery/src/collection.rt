@@ -37,7 +37,7 @@ impl<F: Field + Drop> Collection<F> {
     }
 
     // Offers an equation. A refusal changes nothing. Kept: all weights become 0. Otherwise the weights build the coefficients from the
-    // kept equations, and the value too where the equation is implied.
+    // kept equations, and the value too where the equation is implied. (No struct of the three: the caller lends its own slices.)
     pub fn offer(
         &mut self,
         coefficients: &[u32],

@@ -6,7 +6,7 @@ ghost use Rattle.windows.specs.Sides.{checked};
 use crate::window::Window;
 
 impl<'a> Window<'a> {
-    // The slice with these sides, for which the check passed.
+    // The slice with these sides, for which the check passed: the one function that asks something of its callers.
     pub fn new(cells: &'a mut [u32], rows: usize, columns: usize) -> Window<'a>
         requires { checked rows columns (length cells.old) ≡ Ok tt }
         ensures shows { shown result ≡ record { rows = rows; columns = columns; cells = cells.old } }
