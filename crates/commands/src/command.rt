@@ -4,7 +4,8 @@ ghost use Rattle.text.specs.Names.{Names};
 
 use text::words::UnknownWord;
 
-// The field that a pass is computed in. (The rings of `requests` are the names of another format, in which integers stand too.)
+// The field that a pass is computed in. (`RingName` of `requests` is of another format: a request may be over `words`, which is no
+// field.)
 #[derive(Clone, Copy, Debug, PartialEq, Eq)]
 pub enum FieldName {
     Residues,

@@ -33,7 +33,7 @@ pub fn parse(heap: Global, text: &[u8]) -> Result<Parsed, AllocError>
     read_lines(heap, Cursor::start(text))
 }
 
-// Reads the lines from a cursor on.
+// Reads the lines from a cursor on, of which this is the only use.
 #[tactic(auto, using(crate::proofs::Going::one_more))]
 fn read_lines(heap: Global, mut cursor: Cursor<'_>) -> Result<Parsed, AllocError>
     ensures { IfOk result (λ p. reading_of p ≡ read_from Start Residues (left cursor.entry)) }

@@ -60,6 +60,7 @@ fn read_text(rt: &HostRuntime) -> anyhow::Result<Vec<u8>> {
     }
 }
 
+// As in `recover`: a crate for both would promise nothing that a contract can say.
 fn read_file(rt: &HostRuntime, path: String) -> anyhow::Result<Vec<u8>> {
     fs::read(rt, path.as_str()).map_err(|error| anyhow!("cannot read {path}: {error}"))
 }

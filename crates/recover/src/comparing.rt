@@ -45,6 +45,7 @@ pub(crate) fn compare_passes(
 }
 
 // The pass, or none where the text has a fault, which is printed: an error holds 120 bytes of text, and a path may be longer.
+// (`read_file` has only an error, in which a long path is cut.)
 fn read_pass(rt: &HostRuntime, path: &str) -> anyhow::Result<Option<Parsed>> {
     let text = read_file(rt, path)?;
     let parsed = parse(rt.alloc(), &text)?;

@@ -30,10 +30,9 @@ pub(crate) fn reply_line(
 pub(crate) fn ask_line<F: Field + Drop>(
     heap: Global,
     published: &Published<F>,
-    unknowns: usize,
     question: Question,
 ) -> Result<String, AllocError> {
-    let reply = ask(heap, unknowns, published, question)?;
+    let reply = ask(heap, published.unknowns(), published, question)?;
     reply_line(heap, question, &reply)
 }
 
@@ -41,9 +40,8 @@ pub(crate) fn ask_line<F: Field + Drop>(
 pub(crate) fn report_text<F: Field + Drop>(
     heap: Global,
     published: &Published<F>,
-    unknowns: usize,
 ) -> Result<String, AllocError> {
-    let symbols: Vec<Symbol> = (0..unknowns)
+    let symbols: Vec<Symbol> = (0..published.unknowns())
         .filter_map(|j| published.unknown(j).ok())
         .collect(heap)?;
     report(heap, &symbols)

@@ -2,8 +2,8 @@
 use crate::blocks::{Block, Blocks, record_block};
 use crate::questions::{ask_line, report_text};
 use algebra::field::Field;
-use anyhow::anyhow;
 use answers::calls::{offer_line, published_line, rank_line, refusal_line};
+use anyhow::anyhow;
 use commands::command::{Command, FieldName};
 use commands::reading::parse;
 use logs::answer::Answer;
@@ -64,7 +64,7 @@ fn print_recording<F: Field + Drop>(
         print_event(rt, event)?;
     }
     match block.questions {
-        Some(questions) => print_published(rt, block.unknowns, recording, questions),
+        Some(questions) => print_published(rt, recording, questions),
         None => Ok(()),
     }
 }
@@ -72,15 +72,15 @@ fn print_recording<F: Field + Drop>(
 // The line of the publication, and the answers after it.
 fn print_published<F: Field + Drop>(
     rt: &HostRuntime,
-    unknowns: usize,
     recording: &Recording<F>,
     questions: &[Command],
 ) -> anyhow::Result<()> {
     let rank = rank_of(&recording.events);
-    let line = published_line(rt.alloc(), rank, unknowns.saturating_sub(rank))?;
+    let free = recording.published.unknowns().saturating_sub(rank);
+    let line = published_line(rt.alloc(), rank, free)?;
     print!(rt; "{line}")?;
     for question in questions {
-        print_question(rt, &recording.published, unknowns, question)?;
+        print_question(rt, &recording.published, question)?;
     }
     Ok(())
 }
@@ -117,7 +117,6 @@ fn print_event(rt: &HostRuntime, event: &Event) -> anyhow::Result<()> {
 fn print_question<F: Field + Drop>(
     rt: &HostRuntime,
     published: &Published<F>,
-    unknowns: usize,
     question: &Command,
 ) -> anyhow::Result<()> {
     let question = match question {
@@ -125,19 +124,15 @@ fn print_question<F: Field + Drop>(
         Command::Kernel(k) => Question::Kernel(*k),
         Command::Symbol(j) => Question::Unknown(*j),
         // the reader lets nothing else follow a publication
-        _ => return print_report(rt, published, unknowns),
+        _ => return print_report(rt, published),
     };
-    let line = ask_line(rt.alloc(), published, unknowns, question)?;
+    let line = ask_line(rt.alloc(), published, question)?;
     print!(rt; "{line}")?;
     Ok(())
 }
 
-fn print_report<F: Field + Drop>(
-    rt: &HostRuntime,
-    published: &Published<F>,
-    unknowns: usize,
-) -> anyhow::Result<()> {
-    let text = report_text(rt.alloc(), published, unknowns)?;
+fn print_report<F: Field + Drop>(rt: &HostRuntime, published: &Published<F>) -> anyhow::Result<()> {
+    let text = report_text(rt.alloc(), published)?;
     print!(rt; "{text}")?;
     Ok(())
 }

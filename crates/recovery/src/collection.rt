@@ -37,7 +37,8 @@ impl<F: Field + Drop> Collection<F> {
     }
 
     // Offers an equation. A refusal changes nothing. Kept: all weights become 0. Otherwise the weights build the coefficients from the
-    // kept equations, and the value too where the equation is implied. (No struct of the three: the caller lends its own slices.)
+    // kept equations, and the value too where the equation is implied. (No struct
+    // of the three: one with a `&mut` slice could only be passed by value and taken apart.)
     pub fn offer(
         &mut self,
         coefficients: &[u32],

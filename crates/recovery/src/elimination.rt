@@ -8,7 +8,7 @@ use algebra::field::Field;
 use algebra::multiples::{add_multiple, scale};
 use algebra::ring::Ring;
 
-// An equation as a row of cells, with no weights.
+// An equation as a row of cells, with no weights; of fixed size as the slots, so that it needs no memory from elsewhere.
 pub(crate) fn extended(coefficients: &[u32], value: u32) -> [u32; CELLS]
     requires { length coefficients.now < CELLS }
     ensures { Extended coefficients.now value result }

@@ -12,6 +12,13 @@ use logs::answer::Symbol;
 use logs::refusal::Refusal;
 
 impl<F: Field + Drop> Published<F> {
+    // The number of unknowns.
+    pub fn unknowns(&self) -> usize
+        ensures { result ≡ self.now.table.width }
+    {
+        self.table.width
+    }
+
     // Writes the possible vector whose free unknowns are 0. Refuses a slice that is not as long as there are unknowns.
     pub fn solution(&self, out: &mut [u32]) -> Result<(), Refusal>
         ensures answer { result ≡ solution_checked self.now.table.width (length out.old) }

@@ -46,7 +46,7 @@ fn check_tables(left: &Table, right: &Table) -> Result<(), Refusal>
 }
 
 // Writes the product of tables for which the check passed into as many cells as it has.
-// It is apart from `multiply`, since what is written through a window into a vector made there did not prove.
+// It is apart from `multiply`: of a vector that the same function made, what a window wrote into it could not be proved.
 fn write_product<R: Ring>(
     r: &R,
     left: &mut Table,

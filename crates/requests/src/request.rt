@@ -4,7 +4,7 @@ ghost use Rattle.requests.specs.Format.{ring_named};
 
 use text::words::UnknownWord;
 
-// The ring that a product is computed in.
+// The ring that a product is computed in. (`FieldName` of `commands` is of another format: a pass is over a field.)
 #[derive(Clone, Copy, Debug, PartialEq, Eq)]
 pub enum RingName {
     Words,

@@ -35,7 +35,7 @@ pub fn only_word(text: &[u8]) -> Option<&[u8]>
 #[derive(Clone, Copy, Debug, PartialEq, Eq)]
 pub struct UnknownWord;
 
-// What `==` on bytes says, in the words of the definitions of formats.
+// Kept beside `==`, since its contract names `bytes_eq`, by which the formats are defined.
 pub fn is_same(word: &[u8], name: &[u8]) -> bool
     ensures { result ≡ bytes_eq word.now name.now }
 {

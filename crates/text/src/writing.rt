@@ -1,4 +1,4 @@
-// Whole numbers, written after what a text holds already. (Functions and no Display, since the lines of a page are written in place.)
+// Whole numbers, written after what a text holds already.
 ghost use Rattle.std.specs.Prelude.{◌≡◌, ◌++◌, map, OnOk, string_bytes, decimal};
 ghost use Rattle.std.specs.List.{flat_map};
 ghost use Rattle.text.specs.Canonical.{spaced};

@@ -40,7 +40,8 @@ pub(crate) fn run(rt: &HostRuntime) -> anyhow::Result<()> {
     println!(rt; "RFC 6330: {powers} powers, {logarithms} logarithms")?;
     let by_table = count_pairs(|a, b| tables.product(a, b) == Some(Octets(ByTable).product(a, b)));
     println!(rt; "octets by table: {by_table} of 65536 products are RFC 6330's")?;
-    let by_shifts = count_pairs(|a, b| tables.product(a, b) == Some(Octets(ByShifts).product(a, b)));
+    let by_shifts = count_pairs(|a, b| tables.product(a, b)
+        == Some(Octets(ByShifts).product(a, b)));
     println!(rt; "octets by shifts: {by_shifts} of 65536 products are RFC 6330's")?;
     let pairs = count_pairs(|a, b| answer_alike(&Octets(ByTable), &Octets(ByShifts), a, b));
     println!(rt; "octets by table and by shifts: alike for {pairs} of 65536 pairs")?;

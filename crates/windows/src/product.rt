@@ -25,7 +25,7 @@ pub fn product<R: Ring>(r: &R, a: &Window, b: &Window, c: Window) -> Result<(), 
     product_into(r, a, b, cells, rows, columns)
 }
 
-// The product into the slice of C, whose sides are given: after a branch C itself can no longer be taken apart.
+// The product into the slice of C, whose sides are given: the checker covers no branch after C was taken apart.
 fn product_into<R: Ring>(
     r: &R,
     a: &Window,

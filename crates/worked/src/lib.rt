@@ -13,7 +13,8 @@ use rings::octets::by_table::ByTable;
 use rings::residues::Residues;
 use rings::words::Words;
 
-// Every line of the table holds, and the supplied rings answer it. (By `&` there is one exit, where one proof has every value.)
+// Every line of the table holds, and the supplied rings answer it. (By `&`, here and in `octet_values`, there is one exit, where one
+// proof has every value.)
 pub fn worked_values() -> bool
     ensures table { AllHold table }
     ensures answered { result ≡ true }
