@@ -123,8 +123,9 @@ fn print_question<F: Field + Drop>(
         Command::Solution => Question::Solution,
         Command::Kernel(k) => Question::Kernel(*k),
         Command::Symbol(j) => Question::Unknown(*j),
+        Command::Report => return print_report(rt, published),
         // the reader lets nothing else follow a publication
-        _ => return print_report(rt, published),
+        _ => return Ok(()),
     };
     let line = ask_line(rt.alloc(), published, question)?;
     print!(rt; "{line}")?;
