@@ -2,10 +2,8 @@
 ghost use Rattle.std.specs.Prelude.{length};
 ghost use Rattle.std.specs.Iterator.{at_most};
 
-use algebra::field::Field;
 use commands::command::Command;
-use logs::refusal::Refusal;
-use pass::recording::{Call, Recording, record};
+use pass::recording::Call;
 use recovery::table::UNKNOWNS;
 use std::alloc::{AllocError, Global};
 
@@ -39,6 +37,11 @@ pub(crate) struct Blocks<'a> {
 impl<'a> Blocks<'a> {
     pub(crate) fn new(commands: &'a [Command]) -> Blocks<'a> {
         Blocks { rest: commands }
+    }
+
+    // The next block that is published.
+    pub(crate) fn next_published(&mut self) -> Option<Block<'a>> {
+        self.find(|block| block.questions.is_some())
     }
 }
 
@@ -79,30 +82,9 @@ fn cut_block(unknowns: usize, commands: &[Command]) -> Block<'_> {
     }
 }
 
-pub(crate) fn published_blocks(
-    heap: Global,
-    commands: &[Command],
-) -> Result<Vec<Block<'_>>, AllocError> {
-    Blocks::new(commands)
-        .filter(|block| block.questions.is_some())
-        .collect(heap)
-}
-
-// The block with its calls made, or why its collection is not opened.
-pub(crate) fn record_block<F: Field + Drop>(
-    heap: Global,
-    field: F,
-    block: &Block,
-) -> Result<Result<Recording<F>, Refusal>, AllocError> {
-    match record(heap, field, block.unknowns, calls_of(heap, block)?) {
-        Ok(recording) => Ok(Ok(recording)),
-        Err(stop) => Ok(Err(stop.into_refused()?)),
-    }
-}
-
 // The calls of a block as data, each offer with a slice of zeros for its weights. (With more unknowns than a collection can have,
 // the block is refused before any call is made.)
-fn calls_of(heap: Global, block: &Block) -> Result<Vec<Call>, AllocError> {
+pub(crate) fn calls_of(heap: Global, block: &Block) -> Result<Vec<Call>, AllocError> {
     let mut calls = Vec::new(heap);
     for command in block.calls {
         match command {

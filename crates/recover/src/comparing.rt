@@ -1,5 +1,5 @@
 // Comparing two passes by every answer that they publish, block by block.
-use crate::blocks::{Block, published_blocks, record_block};
+use crate::blocks::{Block, Blocks, calls_of};
 use crate::input::read_file;
 use crate::questions::reply_line;
 use crate::solving::rank_of;
@@ -8,12 +8,13 @@ use answers::passes::{agree_line, differ_line};
 use commands::command::{Command, FieldName};
 use commands::reading::{Parsed, parse};
 use pass::comparison::{Difference, compare};
+use pass::recording::record;
+use pass::stop::Stop;
 use rings::octets::Octets;
 use rings::octets::by_shifts::ByShifts;
 use rings::octets::by_table::ByTable;
 use rings::residues::Residues;
 use std::alloc::{AllocError, Global};
-use std::cmp::Ordering;
 use std::process::ExitCode;
 
 // What two published blocks come to. (No Result: a difference is an answer, and no error.)
@@ -77,36 +78,38 @@ fn compare_blocks<F: Field + Copy + Drop, G: Field + Copy + Drop>(
     a: &[Command],
     b: &[Command],
 ) -> anyhow::Result<ExitCode> {
-    let a = published_blocks(rt.alloc(), a)?;
-    let b = published_blocks(rt.alloc(), b)?;
+    let mut others = Blocks::new(b);
+    // counted by hand, since the number is wanted after the loop too
+    let mut blocks: usize = 0;
     let mut answers: usize = 0;
-    for (i, (x, y)) in a.iter().zip(b.iter()).enumerate() {
-        match compare_block(rt.alloc(), f, g, x, y)? {
+    for x in Blocks::new(a).filter(|block| block.questions.is_some()) {
+        blocks = blocks.saturating_add(1);
+        let Some(y) = others.next_published() else {
+            return differ(rt, blocks, "published", "not there");
+        };
+        match compare_block(rt.alloc(), f, g, &x, &y)? {
             Outcome::Agree { answers: more } => answers = answers.saturating_add(more),
             Outcome::Differ { first, second } => {
-                return differ(rt, i + 1, first.as_str(), second.as_str());
+                return differ(rt, blocks, first.as_str(), second.as_str());
             }
         }
     }
-    end_comparison(rt, answers, a.len(), b.len())
+    end_comparison(rt, blocks, answers, others)
 }
 
-// So many answers are equal, and one of the passes may have more blocks.
+// So many blocks of both passes agree, and the second may have more.
 fn end_comparison(
     rt: &HostRuntime,
+    blocks: usize,
     answers: usize,
-    first: usize,
-    second: usize,
+    mut others: Blocks,
 ) -> anyhow::Result<ExitCode> {
-    match first.cmp(&second) {
-        Ordering::Less => differ(rt, first + 1, "not there", "published"),
-        Ordering::Greater => differ(rt, second + 1, "published", "not there"),
-        Ordering::Equal => {
-            let line = agree_line(rt.alloc(), first, answers)?;
-            print!(rt; "{line}")?;
-            Ok(ExitCode::SUCCESS)
-        }
+    if others.next_published().is_some() {
+        return differ(rt, blocks.saturating_add(1), "not there", "published");
     }
+    let line = agree_line(rt.alloc(), blocks, answers)?;
+    print!(rt; "{line}")?;
+    Ok(ExitCode::SUCCESS)
 }
 
 fn differ(rt: &HostRuntime, block: usize, first: &str, second: &str) -> anyhow::Result<ExitCode> {
@@ -127,12 +130,14 @@ fn compare_block<F: Field + Drop, G: Field + Drop>(
         let second = format!(in heap; "{} unknowns", y.unknowns)?;
         return Ok(Outcome::Differ { first, second });
     }
-    // a number of unknowns that is refused is answered alike
-    let Ok(a) = record_block(heap, f, x)? else {
-        return Ok(Outcome::Agree { answers: 1 });
+    // `record` is called here, as in `solve_blocks`
+    let a = match record(heap, f, x.unknowns, calls_of(heap, x)?) {
+        Ok(recording) => recording,
+        Err(stop) => return refused_alike(stop),
     };
-    let Ok(b) = record_block(heap, g, y)? else {
-        return Ok(Outcome::Agree { answers: 1 });
+    let b = match record(heap, g, y.unknowns, calls_of(heap, y)?) {
+        Ok(recording) => recording,
+        Err(stop) => return refused_alike(stop),
     };
     match compare(heap, x.unknowns, &a.published, &b.published)? {
         Some(
@@ -149,6 +154,12 @@ fn compare_block<F: Field + Drop, G: Field + Drop>(
             answers: answers_of(x.unknowns, rank_of(&a.events)),
         }),
     }
+}
+
+// A number of unknowns that is refused is answered alike.
+fn refused_alike(stop: Stop) -> Result<Outcome, AllocError> {
+    let _refusal = stop.into_refused()?;
+    Ok(Outcome::Agree { answers: 1 })
 }
 
 // The solution, the kernel vectors and the unknowns.

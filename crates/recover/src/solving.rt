@@ -1,5 +1,5 @@
 // Solving a pass: its calls are recorded, and every answer is printed.
-use crate::blocks::{Block, Blocks, record_block};
+use crate::blocks::{Block, Blocks, calls_of};
 use crate::questions::{ask_line, report_text};
 use algebra::field::Field;
 use answers::calls::{offer_line, published_line, rank_line, refusal_line};
@@ -9,7 +9,7 @@ use commands::reading::parse;
 use logs::answer::Answer;
 use logs::refusal::Refusal;
 use pass::asking::Question;
-use pass::recording::{Event, Recording};
+use pass::recording::{Event, Recording, record};
 use recovery::published::Published;
 use rings::octets::Octets;
 use rings::octets::by_shifts::ByShifts;
@@ -38,9 +38,11 @@ fn solve_blocks<F: Field + Copy + Drop>(
     commands: &[Command],
 ) -> anyhow::Result<()> {
     for block in Blocks::new(commands) {
-        match record_block(rt.alloc(), field, &block)? {
+        // not a function of its own: it would copy the recording once more, 33 KB
+        let calls = calls_of(rt.alloc(), &block)?;
+        match record(rt.alloc(), field, block.unknowns, calls) {
             Ok(recording) => print_recording(rt, &block, &recording)?,
-            Err(refusal) => print_refused(rt, &block, refusal)?,
+            Err(stop) => print_refused(rt, &block, stop.into_refused()?)?,
         }
     }
     Ok(())
