@@ -1,28 +1,16 @@
--- The steps of the two loops of the product: one more row of B is added, one more row of C is written.
-use Rattle.std.proofs.Common.{◌≡◌, ℕ, ◌+◌, ◌-◌, ◌*◌, ◌<◌, ◌≤◌, ◌⊎◌, List, ◌∷◌, ◌++◌, length, get_or, drop, sym, ap, ◌∙◌, ap₂, subst, add-one, inl, inr, arith, length-append, length-drop, get_or-drop, mul-le-mul_right}
+-- The steps of the outer loop of the product: one more row of C is written.
+use Rattle.std.proofs.Common.{◌≡◌, ℕ, ◌+◌, ◌-◌, ◌*◌, ◌<◌, ◌≤◌, List, ◌++◌, length, get_or, drop, sym, ap, ◌∙◌, subst, arith, length-append, length-drop, get_or-drop, mul-le-mul_right}
 use native.Mathlib.Decide.{dec_lt, ℕ_discrete}
 use borrow.Rule.Slice.PartMut.{put_mid}
 use Rattle.std.proofs.lemmas.List.{get_or_append_left, drop-drop}
 use Rattle.std.proofs.Math.Seq.{drop-append_seam}
 use Rattle.algebra.specs.Meaning.{Meaning}
 use Rattle.algebra.specs.Matrix.{Matrix, entry}
-use Rattle.algebra.specs.Multiples.{MultipleAdded}
 use Rattle.algebra.specs.Operations.{operations, dot, times}
 use Rattle.algebra.proofs.Sums.{sum_cong}
 use Rattle.algebra.proofs.Rows.{row_next, row_end, written_same, written_other, row_major_all}
 use Rattle.windows.specs.Product.{product_cells}
 use Rattle.windows.specs.Rows.{RowTimes}
-
--- what is left of a list after its element k
-module _ (k : ℕ) (xs ys : List ℕ) (x : ℕ) (split : drop k xs ≡ x ∷ ys) where
-  pub within : k < length xs
-  within = omega (arith, length-drop k xs, ap length split)
-
-  pub element : x ≡ get_or xs k 0
-  element = sym (ap (λ l. get_or l 0 0) split) ∙ get_or-drop k xs 0 0 ∙ ap (λ i. get_or xs i 0) (omega arith)
-
-  pub rest : ys ≡ drop (k + 1) xs
-  rest = sym (ap (drop 1) split) ∙ drop-drop 1 k xs
 
 -- what is left of a matrix of rows of n codes after its row k
 module _ (k n : ℕ) (xs row ys : List ℕ) (split : drop (k * n) xs ≡ row ++ ys) (full : length row ≡ n) where
@@ -34,47 +22,6 @@ module _ (k n : ℕ) (xs row ys : List ℕ) (split : drop (k * n) xs ≡ row ++ 
   rows_rest =
       sym (drop-append_seam row ys) ∙ sym (ap (drop (length row)) split) ∙ drop-drop (length row) (k * n) xs
       ∙ ap (λ i. drop i xs) (omega (arith, row_next k n))
-
--- the sums over the rows before k of a matrix of rows of n codes, and what is left of both
-pub record Summed (m : Meaning) (left cells : List ℕ) (n k : ℕ) (lefts rows into : List ℕ) : Type 0 where
-  pub left_part : lefts ≡ drop k left
-  pub row_part : rows ≡ drop (k * n) cells
-  pub passed : k ≤ length left
-  pub sums : (j : ℕ) → j < n → get_or into j 0 ≡ dot (operations m) k (λ k. get_or left k 0) (λ k. entry n cells k j)
-
-module _ (m : Meaning) (left cells : List ℕ) (n k : ℕ) (lefts rows before : List ℕ) (h : Summed m left cells n k lefts rows before) where
-  -- one more row is added
-  pub summed_more : (k' x : ℕ) (xs row rest after : List ℕ) → lefts ≡ x ∷ xs → rows ≡ row ++ rest → length row ≡ n → length before ≡ n
-      → MultipleAdded m before x row after → k' ≡ k + 1 → Summed m left cells n k' xs rest after
-  summed_more k' x xs row others after el er full wide added ek =
-      subst (λ k. Summed m left cells n k xs others after) (sym ek)
-      (record {
-        left_part = rest k left xs x sl;
-        row_part = rows_rest k n cells row others sr full;
-        passed = omega (arith, within k left xs x sl);
-        sums = λ j l.
-            added.inside j (omega arith) (omega arith)
-            ∙ ap₂ m.sum (h.sums j l) (ap₂ m.product (element k left xs x sl) (row_entry k n cells row others sr full j l))
-            ∙ sym (rw add-one);
-      })
-    where
-      sl : drop k left ≡ x ∷ xs
-      sl = sym h.left_part ∙ el
-
-      sr : drop (k * n) cells ≡ row ++ others
-      sr = sym h.row_part ∙ er
-
-  -- all rows are added
-  pub summed_all : length cells ≡ length left * n → (length lefts ≡ 0) ⊎ (length rows < n) → (j : ℕ) → j < n
-      → get_or before j 0 ≡ dot (operations m) (length left) (λ k. get_or left k 0) (λ k. entry n cells k j)
-  summed_all fits end j l = h.sums j l ∙ ap (λ k. dot (operations m) k (λ k. get_or left k 0) (λ k. entry n cells k j)) (last end)
-    where
-      last : (length lefts ≡ 0) ⊎ (length rows < n) → k ≡ length left
-      last (inl e) = omega (arith, ap length h.left_part, length-drop k left)
-      last (inr e) = elim (dec_lt k (length left)) [
-        | yes b ↦ absurd (omega (arith, row_end k (length left) n b, row_next k n, ap length h.row_part, length-drop (k * n) cells))
-        | no b ↦ omega (arith, h.passed)
-      ]
 
 -- the rows of A × B before k, and what is left of A
 pub record Written (m : Meaning) (a b : Matrix) (k : ℕ) (rest into : List ℕ) : Type 0 where

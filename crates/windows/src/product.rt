@@ -80,7 +80,9 @@ fn product_row<R: Ring>(r: &R, left: &[u32], b: &Window, into: &mut [u32])
     ensures { RowTimes (R.Ring.meaning r.now) left.now (shown b.now) into.new }
 {
     into.fill(0);
-    for (by, row) in left.iter().zip(b.cells.chunks_exact(b.columns)) {
-        add_multiple(r, into, *by, row);
+    // By index: with `chunks_exact` a matrix of few columns takes several times the time.
+    let columns = into.len();
+    for (k, by) in left.iter().enumerate() {
+        add_multiple(r, into, *by, &b.cells[k * columns..(k + 1) * columns]);
     }
 }
