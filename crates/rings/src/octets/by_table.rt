@@ -11,7 +11,7 @@ impl Multiplication for ByTable {
     #[tactic(auto, using(crate::proofs::Products::by_table))]
     fn product(&self, a: u8, b: u8) -> u8 {
         match (NonZeroU8::new(a), NonZeroU8::new(b)) {
-            (Some(a), Some(b)) => power(u16::from(logarithm(a)) + u16::from(logarithm(b))),
+            (Some(a), Some(b)) => power(u32::from(logarithm(a)) + u32::from(logarithm(b))),
             _ => 0,
         }
     }
@@ -19,6 +19,6 @@ impl Multiplication for ByTable {
     // The logarithms of a code and of its inverse add up to 255.
     #[tactic(auto, using(crate::proofs::Products::product_power, crate::proofs::Products::power_255))]
     fn inverse(&self, a: NonZeroU8) -> u8 {
-        power(255 - u16::from(logarithm(a)))
+        power(255 - u32::from(logarithm(a)))
     }
 }

@@ -28,10 +28,10 @@ fn powers() -> &'static [u8; 255]
 }
 
 // Since the power 255 is 1, past the table the powers begin again.
-pub(super) fn power(i: u16) -> u8
+pub(super) fn power(i: u32) -> u8
     requires { i < 510 }
     ensures { result ≡ power_of 0x11D i }
 {
     let place = if i < 255 { i } else { i - 255 };
-    powers()[usize::from(place)]
+    powers()[place as usize]
 }

@@ -8,5 +8,5 @@ use Rattle.rings.proofs.octets.powers.power.Goals as goal
 
 pub returns : goal.returns
 returns c =
-    let read = power_at tests c.powers.result.now c.powers.ensures c.from.result (search rules) in
+    let read = power_at tests c.powers.result.now c.powers.ensures c.before.before.before.before.if-i-lt255.place (search rules) in
     grind (arith, common_steps, power_again tests (c.args.i - 255))
