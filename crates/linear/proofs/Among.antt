@@ -1,5 +1,6 @@
 -- Numbers that pass a test, and sums over them.
-use Rattle.std.proofs.Common.{◌≡◌, ℕ, zero, suc, ◌+◌, ◌<◌, ◌≤◌, Bool, true, false, cond, eqb, ◌⊎◌, List, [], ◌∷◌, length, get_or, sym, refl, ap, ◌∙◌, subst, ap₂, inl, inr, arith, eq-eqb, eqb-true}
+use Rattle.std.proofs.Common.{◌≡◌, ℕ, zero, suc, ◌+◌, ◌-◌, ◌<◌, ◌≤◌, Bool, true, false, cond, eqb, ◌⊎◌, List, [], ◌∷◌, ◌++◌, length, get_or, sym, refl, ap, ◌∙◌, subst, ap₂, inl, inr, suc-add, arith, length-append, eq-eqb, eqb-true}
+use Rattle.std.proofs.lemmas.List.{get_or_append_left, get_or_at, append-nil}
 use native.Mathlib.Decide.{ℕ_discrete}
 use Rattle.std.proofs.lemmas.Bool.{cond-true, cond-false, cases_Bool, true≢false}
 use Rattle.algebra.specs.Among.{among, member}
@@ -135,3 +136,39 @@ module _ {K : Type 0} (F : FieldOn K) where
       go : (b a ≡ true) ⊎ (b a ≡ false) → length (among b (suc a) k) ≡ frees F R (suc a) k → length (among b a (suc k)) ≡ frees F R a (suc k)
       go (inl t) ih = ap length (among_yes b a k t) ∙ ap suc (ih ∙ next) ∙ sym (by_yes (dec (R a a) 𝟘) ((h a (omega arith) (omega arith)).0 t) _ _)
       go (inr f) ih = ap length (among_no b a k f) ∙ ih ∙ next ∙ sym (by_no (dec (R a a) 𝟘) (λ e. true≢false (sym ((h a (omega arith) (omega arith)).1 e) ∙ f)) _ _)
+
+-- a range in two parts
+pub among_split : (b : ℕ → Bool) (a k l : ℕ) → among b a (k + l) ≡ among b a k ++ among b (a + k) l
+among_split b a zero l = ap₂ (λ x y. among b x y) (sym (native.Mathlib.Nat.add-zero a)) (native.Mathlib.Nat.zero-add l)
+among_split b a (suc k) l =
+    ap (among b a) (suc-add k l) ∙ go (cases_Bool (b a)) (among_split b (suc a) k l ∙ ap (λ x. among b (suc a) k ++ among b x l) (let e : suc a + k ≡ a + suc k = omega arith in e))
+  where
+    go : (b a ≡ true) ⊎ (b a ≡ false) → among b (suc a) (k + l) ≡ among b (suc a) k ++ among b (a + suc k) l → among b a (suc (k + l)) ≡ among b a (suc k) ++ among b (a + suc k) l
+    go (inl t) ih = among_yes b a (k + l) t ∙ ap (λ s. a ∷ s) ih ∙ ap (λ s. s ++ among b (a + suc k) l) (sym (among_yes b a k t))
+    go (inr f) ih = among_no b a (k + l) f ∙ ih ∙ ap (λ s. s ++ among b (a + suc k) l) (sym (among_no b a k f))
+
+-- the first c numbers among n
+module _ (b : ℕ → Bool) (n c : ℕ) (l : c < n) where
+  split : among b 0 n ≡ among b 0 c ++ among b c (suc (n - (c + 1)))
+  split =
+      ap (among b 0) (let e : n ≡ c + suc (n - (c + 1)) = omega arith in e) ∙ among_split b 0 c (suc (n - (c + 1)))
+      ∙ ap (λ x. among b 0 c ++ among b x (suc (n - (c + 1)))) (native.Mathlib.Nat.zero-add c)
+
+  pub among_before : (x : ℕ) → x < length (among b 0 c) → get_or (among b 0 n) x 0 ≡ get_or (among b 0 c) x 0
+  among_before x h = ap (λ s. get_or s x 0) split ∙ get_or_append_left (among b 0 c) _ 0 x h
+
+  pub among_here : b c ≡ true → (length (among b 0 c) < length (among b 0 n)) × (get_or (among b 0 n) (length (among b 0 c)) 0 ≡ c)
+  among_here t =
+      let e : among b 0 n ≡ among b 0 c ++ (c ∷ among b (suc c) (n - (c + 1))) = split ∙ ap (λ s. among b 0 c ++ s) (among_yes b c (n - (c + 1)) t) in (
+        (let z = ap length e ∙ length-append (among b 0 c) (c ∷ among b (suc c) (n - (c + 1))) in omega arith),
+        ap (λ s. get_or s (length (among b 0 c)) 0) e ∙ get_or_at (among b 0 c) c (among b (suc c) (n - (c + 1))) 0 (length (among b 0 c)) refl,
+      )
+
+pub among_more_yes : (b : ℕ → Bool) (c : ℕ) → b c ≡ true → among b 0 (c + 1) ≡ among b 0 c ++ (c ∷ [])
+among_more_yes b c t =
+    among_split b 0 c 1 ∙ ap (λ x. among b 0 c ++ among b x 1) (native.Mathlib.Nat.zero-add c) ∙ ap (λ s. among b 0 c ++ s) (among_yes b c 0 t)
+
+pub among_more_no : (b : ℕ → Bool) (c : ℕ) → b c ≡ false → among b 0 (c + 1) ≡ among b 0 c
+among_more_no b c f =
+    among_split b 0 c 1 ∙ ap (λ x. among b 0 c ++ among b x 1) (native.Mathlib.Nat.zero-add c) ∙ ap (λ s. among b 0 c ++ s) (among_no b c 0 f)
+    ∙ append-nil (among b 0 c)

@@ -294,6 +294,10 @@ module _ (m : Meaning) (laws : FieldLaws m) (n : ℕ) (es : List Equation) (t : 
         (u.1 ∙ sum_cong (code_ops m laws) n _ _ (λ c lc. ap (λ x. x ⊗ vec m laws v c) (row_is i l c lc))
         ∙ h (piv i) (p.form.echelon.leads i l).inside)
 
+  -- the number of free columns of a reduced form
+  pub free_count : Sounds m n es → (p : Reduction m n es) → length (free n p.pivots) + length es ≡ n
+  free_count sd p = rw (free_same sd p) free_many
+
 -- what a reduced form may answer after a log
 module _ (m : Meaning) (laws : FieldLaws m) (n : ℕ) (log : Log) (md : Made m n log) (t : Tabled m laws n (kept log)) (p : Reduction m n (kept log)) where
   abbrev es : List Equation
